@@ -1,0 +1,35 @@
+// Where the rows of a line lie among a region's rows.
+ghost use mathlib.Core.Path.{_≡_};
+ghost use lib.ListN.{length};
+ghost use Rattle.region.specs.Layout.{main-at, main-rows as main-of, exit-rows, join-rows};
+use super::row::Row;
+use super::shape::Shape;
+use super::side::Side;
+
+/// The rows of a region.
+pub const REGION_ROWS: usize = 384;
+/// The label rows of a region.
+pub const REGION_LABELS: usize = 9;
+/// The words of a state: sixteen registers and four banks of sixteen cells.
+pub const STATE_WORDS: usize = 80;
+/// The most rows of a line, and where the schedule's main line begins.
+pub const MAIN_ROWS: usize = 96;
+/// The most exits of a line.
+pub const EXITS: usize = 8;
+/// The most joins of a line.
+pub const JOINS: usize = 4;
+/// The most rows of a piece.
+pub const PIECE_ROWS: usize = 16;
+/// Where the pieces of the exits begin.
+pub const EXIT_PIECES: usize = 192;
+/// Where the pieces of the joins begin.
+pub const JOIN_PIECES: usize = 320;
+
+fn main_begins(side: Side) -> usize
+    ensures { λ r. ⌜ r ≡ main-at side ⌝ }
+{
+    match side {
+        Side::Source => 0,
+        Side::Schedule => MAIN_ROWS,
+    }
+}
