@@ -82,6 +82,11 @@ module _ {W : Type 0} (m : Meaning W) where
       (Err misfit.State)))
       (Err misfit.Rows)
 
+-- the state after a step, which a trap leaves as it was
+abbrev pub after-step : {W : Type 0} → Option (List W) → List W → List W
+after-step None σ = σ
+after-step (Some τ) σ = τ
+
 -- what a run answers, and the state after it, which is as it was where there is no run
 abbrev pub answered : {W : Type 0} → Result (Ended W) Misfit → Result Outcome Misfit
 answered (Ok z) = Ok (z .outcome)

@@ -1,10 +1,4 @@
-// Where the rows of a line lie among a region's rows.
-ghost use mathlib.Core.Path.{_≡_};
-ghost use lib.ListN.{length};
-ghost use Rattle.region.specs.Layout.{main-at, main-rows as main-of, exit-rows, join-rows};
-use super::row::Row;
-use super::shape::Shape;
-use super::side::Side;
+// The sizes of regions, lines and states, and where things lie among a region's rows.
 
 /// The rows of a region.
 pub const REGION_ROWS: usize = 384;
@@ -24,12 +18,3 @@ pub const PIECE_ROWS: usize = 16;
 pub const EXIT_PIECES: usize = 192;
 /// Where the pieces of the joins begin.
 pub const JOIN_PIECES: usize = 320;
-
-fn main_begins(side: Side) -> usize
-    ensures { λ r. ⌜ r ≡ main-at side ⌝ }
-{
-    match side {
-        Side::Source => 0,
-        Side::Schedule => MAIN_ROWS,
-    }
-}

@@ -1,6 +1,5 @@
 // How names and label rows are made and read.
 ghost use mathlib.Core.Path.{_≡_};
-ghost use lib.ListN.{length, drop};
 ghost use Rattle.region.specs.Labels.{name-byte, name-at, unused};
 use super::LabelRow;
 use super::Name;

@@ -1,6 +1,10 @@
 // How a shape is made and read.
 ghost use mathlib.Core.Path.{_≡_};
+ghost use Prim.Native.Nat.{_≤_};
+ghost use lib.ListN.{getD};
 ghost use Rattle.region.specs.Listing.{listed, kept, source-kept};
+use super::super::layout::EXITS;
+use super::super::layout::JOINS;
 use super::super::main_rows::MainRows;
 use super::LabelNumber;
 use super::Shape;
@@ -21,14 +25,36 @@ impl Shape {
 
     /// How many main rows the line has.
     pub fn rows(&self) -> usize
-        ensures { λ r. ⌜ r ≡ now (self .entry) .rows ⌝ }
+        ensures value { λ r. ⌜ r ≡ now (self .entry) .rows ⌝ }
+        ensures few { λ r. ⌜ r ≤ 96 ⌝ }
     {
         self.rows as usize
     }
 
+    /// How long the piece of an exit is, counted from 0: 0 beyond the eighth.
+    pub fn exit_rows(&self, k: usize) -> usize
+        ensures value { λ r. ⌜ r ≡ getD (now (self .entry) .exits) k 0 ⌝ }
+        ensures short { λ r. ⌜ r ≤ 16 ⌝ }
+    {
+        if k < EXITS { self.exits[k] as usize } else { 0 }
+    }
+
+    /// How long the piece of a join is, counted from 0: 0 beyond the fourth.
+    pub fn entry_rows(&self, j: usize) -> usize
+        ensures value { λ r. ⌜ r ≡ getD (now (self .entry) .entries) j 0 ⌝ }
+        ensures short { λ r. ⌜ r ≤ 16 ⌝ }
+    {
+        if j < JOINS {
+            self.entries[j] as usize
+        } else {
+            0
+        }
+    }
+
     /// How many joins the line has.
     pub fn joins(&self) -> usize
-        ensures { λ r. ⌜ r ≡ now (self .entry) .joins ⌝ }
+        ensures value { λ r. ⌜ r ≡ now (self .entry) .joins ⌝ }
+        ensures few { λ r. ⌜ r ≤ 4 ⌝ }
     {
         self.joins as usize
     }

@@ -1,0 +1,8 @@
+// Where a line goes on.
+
+/// A place among main rows: how many rows and how many exits stand above it.
+#[derive(Clone, Copy)]
+pub(crate) struct Position {
+    pub(crate) place: usize,
+    pub(crate) exits: usize,
+}
