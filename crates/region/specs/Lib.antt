@@ -5,5 +5,4 @@ pub mod Layout
 pub mod Parts
 pub mod Lines
 pub mod Machine
-pub mod Straight
 pub mod Listing

@@ -1,15 +1,12 @@
-// The rows of a region, how they are laid out, and the machine that runs them.
+// The rows of a region, how they are laid out, and what they mean.
 mod blank;
 mod label;
 mod layout;
-mod machine;
 mod main_rows;
 mod numbers;
 mod outcome;
 mod part;
-mod position;
 mod row;
-mod runner;
 mod shape;
 mod side;
 
@@ -33,6 +30,5 @@ pub use outcome::Outcome;
 pub use part::Part;
 pub use row::Action;
 pub use row::Row;
-pub use runner::run;
 pub use shape::Shape;
 pub use side::Side;

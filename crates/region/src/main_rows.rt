@@ -5,7 +5,8 @@ ghost use lib.ListN.{take};
 ghost use Rattle.region.specs.Rows.{blank, exits-in, joins-in, laid};
 use super::row::Row;
 
-mod filling;
+mod pushing;
+mod reading;
 
 /// The main rows of a line as they are put in, one after the other, and blank rows behind them.
 /// There are never more than 96, with 8 exits and 4 joins.

@@ -1,7 +1,9 @@
 // The numbers that a row may hold. Each is a type of its own, which cannot hold a number out of its range.
 ghost use Prim.Native.Nat.{_<_};
 
-mod making;
+mod banks;
+mod labels;
+mod registers;
 
 /// A register: 0 to 15.
 #[derive(Clone, Copy)]

@@ -1,0 +1,4 @@
+pub mod Performing
+pub mod Running
+pub mod Entering
+pub mod Misfits
