@@ -9,6 +9,8 @@ use super::Domain;
 use super::Op;
 use super::Slot;
 
+const LAST_SLOT: i32 = 15;
+
 /// A number of 32 bits with a sign.
 #[derive(Clone, Copy, PartialEq, Eq)]
 pub struct Trapping {
@@ -45,7 +47,7 @@ fn quotient(x: i32, y: i32) -> Option<Trapping>
 fn addressed_cell(value: i32) -> Option<Slot>
     ensures { λ r. ⌜ r ≡ addressed value ⌝ }
 {
-    if value < 0 || value > 15 {
+    if value < 0 || value > LAST_SLOT {
         None
     } else {
         Slot::new(value as u8)

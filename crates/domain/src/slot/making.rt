@@ -3,12 +3,14 @@ ghost use mathlib.Core.Path.{_≡_};
 ghost use Rattle.domain.specs.Slots.{slot-at};
 use super::Slot;
 
+const SLOTS: u8 = 16;
+
 impl Slot {
     /// The slot of that number, or nothing where there is none.
     pub fn new(index: u8) -> Option<Slot>
         ensures { λ r. ⌜ r ≡ slot-at index ⌝ }
     {
-        if index < 16 {
+        if index < SLOTS {
             Some(Slot { index })
         } else {
             None

@@ -3,12 +3,14 @@ ghost use mathlib.Core.Path.{_≡_};
 ghost use Rattle.region.specs.Numbers.{label-at};
 use super::LabelNumber;
 
+const LABELS: u8 = 9;
+
 impl LabelNumber {
     /// The label of that number, or nothing where there is none.
     pub fn new(index: u8) -> Option<LabelNumber>
         ensures { λ r. ⌜ r ≡ label-at index ⌝ }
     {
-        if index < 9 {
+        if index < LABELS {
             Some(LabelNumber { index })
         } else {
             None

@@ -3,12 +3,14 @@ ghost use mathlib.Core.Path.{_≡_};
 ghost use Rattle.region.specs.Numbers.{register-at};
 use super::Register;
 
+const REGISTERS: u8 = 16;
+
 impl Register {
     /// The register of that number, or nothing where there is none.
     pub fn new(index: u8) -> Option<Register>
         ensures { λ r. ⌜ r ≡ register-at index ⌝ }
     {
-        if index < 16 {
+        if index < REGISTERS {
             Some(Register { index })
         } else {
             None

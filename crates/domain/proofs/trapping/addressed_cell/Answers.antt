@@ -15,8 +15,8 @@ not-negative : (z : ℤ) → ltZ z (pos 0) ≡ false → addressed z ≡ slot-at
 not-negative (pos n) h = refl
 not-negative (negsuc n) h = absurd (let z : _≡_ {A = ℕ} 0 1 = cc in omega arith)
 
-pub returns-else-value-gt15 : need.returns-else-value-gt15
-returns-else-value-gt15 c =
+pub returns-else-value-gt-LAST-SLOT : need.returns-else-value-gt-LAST-SLOT
+returns-else-value-gt-LAST-SLOT c =
     let v = c .args .value in
     let same : toZ w32 (ofZ w32 v) ≡ v = search needs in
     let h : ltZ v (pos 0) ≡ false = search needs in

@@ -2,5 +2,5 @@ use borrow.Author.Needs.{needs}
 use Rattle.domain.proofs.Ranges.{slot-some}
 use Rattle.domain.proofs.slot.Slot.new.Needs as need
 
-pub returns-then-index-lt16 : need.returns-then-index-lt16
-returns-then-index-lt16 c = slot-some _
+pub returns-then-index-lt-SLOTS : need.returns-then-index-lt-SLOTS
+returns-then-index-lt-SLOTS c = slot-some _

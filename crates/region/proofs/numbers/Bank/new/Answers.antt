@@ -1,5 +1,5 @@
 use Rattle.region.proofs.Made.{bank-some}
 use Rattle.region.proofs.numbers.Bank.new.Needs as need
 
-pub returns-then-index-lt4 : need.returns-then-index-lt4
-returns-then-index-lt4 c = bank-some _
+pub returns-then-index-lt-BANKS : need.returns-then-index-lt-BANKS
+returns-then-index-lt-BANKS c = bank-some _
