@@ -6,7 +6,7 @@
 ghost use mathlib.Core.Path.{_≡_};
 ghost use Prim.Native.Nat.{_+_, _<_};
 ghost use denote.Ref.{name};
-ghost use lib.ListN.{drop, set};
+ghost use lib.ListN.{drop, length, set};
 ghost use Rattle.numbering.specs.Rows.{Kept-distinct, One-number, found, numbered, with-row};
 ghost use Rattle.numbering.specs.Used.{capacity, used};
 
@@ -26,6 +26,13 @@ impl<'a, R: Kind + Copy> Table<'a, R> {
         ensures named { λ t. ⌜ name (t .rows) ≡ name (rows .entry) ⌝ }
     {
         Table { rows, len: 0 }
+    }
+
+    /// How many rows have a number.
+    pub fn len(&self) -> usize
+        ensures { λ r. ⌜ r ≡ length (used (now (self .entry))) ⌝ }
+    {
+        self.len
     }
 
     /// The number of the row, or `None` where it has none.

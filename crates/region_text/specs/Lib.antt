@@ -1,0 +1,12 @@
+pub mod Faults
+pub mod Texts
+pub mod Fields
+pub mod Numbers
+pub mod Letters
+pub mod Names
+pub mod Records
+pub mod Sources
+pub mod Drafts
+pub mod Scanning
+pub mod Places
+pub mod Readers
