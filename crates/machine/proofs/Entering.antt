@@ -11,7 +11,7 @@ use Rattle.region.specs.declared.numbers.LabelNumber.{LabelNumber}
 use Rattle.region.specs.declared.numbers.Register.{Register}
 use Rattle.region.specs.declared.row.Row.{Row}
 use Rattle.region.specs.declared.row.Row.the-variants.{Act, Exit, Join}
-use Rattle.region.specs.declared.shape.Shape.{Shape}
+use Rattle.region.specs.Kept.{Kept}
 use Rattle.region.specs.Rows.{actions}
 use Rattle.region.specs.Layout.{join-rows}
 use Rattle.region.specs.Lines.{Start, entered, missing, places-of}
@@ -20,11 +20,11 @@ use Rattle.machine.proofs.Performing.{here}
 
 -- Entry j + 1 of main rows is entry j + 1 - above of the rows that are left, which have so many joins and exits above them.
 pub record Toward (j : ℕ) (main : List Row) (above exits : ℕ) (left : List Row) : Type 0 where
-  pub toward : (part : List Row) (sh : Shape) (n : ℕ) → j < n
+  pub toward : (part : List Row) (sh : Kept) (n : ℕ) → j < n
       → entered (suc j) (places-of part sh 0 0 n main) ≡ entered (suc (j - above)) (places-of part sh exits above (n - above) left)
 
 -- among joins that have no row
-past-missing : (part : List Row) (sh : Shape) (x a y : ℕ)
+past-missing : (part : List Row) (sh : Kept) (x a y : ℕ)
     → entered (suc x) (missing part sh a (suc (x + y))) ≡ record { piece = actions (join-rows part sh (a + x)); places = missing part sh (suc (a + x)) y }
 past-missing part sh zero a y = let p : a + 0 ≡ a = omega arith in let q : 0 + y ≡ y = omega arith in rw (p, q)
 past-missing part sh (suc x) a y =
@@ -52,7 +52,7 @@ module _ (j : ℕ) (main : List Row) (above exits i : ℕ) (r : Row) (inv : Towa
         ∙ ap (λ c. entered (suc (j - (above + 1))) (places-of part sh exits c (n - (above + 1)) (drop (i + 1) main))) (sym (add-one above));
   })
 
-  pub at-join : r ≡ Join → above ≡ j → (part : List Row) (sh : Shape) (n : ℕ) → j < n → Enters part sh j n main (i + 1) exits
+  pub at-join : r ≡ Join → above ≡ j → (part : List Row) (sh : Kept) (n : ℕ) → j < n → Enters part sh j n main (i + 1) exits
   at-join e b part sh n h =
       let x : j - above ≡ zero = omega arith in
       let y : n - above ≡ suc (n - suc j) = omega arith in
@@ -61,7 +61,7 @@ module _ (j : ℕ) (main : List Row) (above exits i : ℕ) (r : Row) (inv : Towa
       ∙ ap (λ c. record { piece = actions (join-rows part sh c); places = places-of part sh exits (suc c) (n - suc j) (drop (i + 1) main) }) b
 
 pub at-end : (j : ℕ) (main : List Row) (above exits i k : ℕ) → Toward j main above exits (drop i main) → length main ≤ i → k ≡ length main → above ≤ j
-    → (part : List Row) (sh : Shape) (n : ℕ) → j < n → Enters part sh j n main k exits
+    → (part : List Row) (sh : Kept) (n : ℕ) → j < n → Enters part sh j n main k exits
 at-end j main above exits i k inv past e b part sh n h =
     let y : n - above ≡ suc ((j - above) + (n - suc j)) = omega arith in
     let z : above + (j - above) ≡ j = omega arith in

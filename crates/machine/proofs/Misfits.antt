@@ -12,13 +12,13 @@ use Rattle.std.specs.declared.result.Result.the-variants.{Ok, Err}
 use Rattle.domain.specs.Meaning.{Meaning}
 use Rattle.region.specs.declared.outcome.Misfit.the-variants as misfit
 use Rattle.region.specs.declared.row.Row.{Row}
-use Rattle.region.specs.declared.shape.Shape.{Shape}
+use Rattle.region.specs.Kept.{Kept}
 use Rattle.region.specs.declared.side.Side.{Side}
 use Rattle.region.specs.Lines.{assembled}
 use Rattle.region.specs.Parts.{part-of}
 use Rattle.region.specs.Machine.{Ended, run, run-in}
 
-module _ {W : Type 0} (m : Meaning W) (side : Side) (part : List Row) (sh : Shape) (e : ℕ) (σ : List W) where
+module _ {W : Type 0} (m : Meaning W) (side : Side) (part : List Row) (sh : Kept) (e : ℕ) (σ : List W) where
   pub no-rows : (length part ≡ 384 → ⊥) → Err misfit.Rows ≡ run-in m side part sh e σ
   no-rows a = rw (ne-eqb (length part) 384 a)
 

@@ -12,7 +12,7 @@ use Rattle.region.specs.declared.numbers.Register.{Register}
 use Rattle.region.specs.declared.row.Action.{Action}
 use Rattle.region.specs.declared.row.Row.{Row}
 use Rattle.region.specs.declared.row.Row.the-variants.{Act, Exit, Join}
-use Rattle.region.specs.declared.shape.Shape.{Shape}
+use Rattle.region.specs.Kept.{Kept}
 use Rattle.region.specs.Rows.{actions}
 use Rattle.region.specs.declared.side.Side.{Side}
 use Rattle.region.specs.Layout.{exit-rows, join-rows, main-rows}
@@ -21,7 +21,7 @@ use Rattle.region.specs.Machine.{Ended, word, step, after-step, onward, perform
 use Rattle.machine.specs.Straight.{Enters, run-rows}
 use Rattle.machine.proofs.Performing.{here, onward-traps, onward-goes}
 
-module _ {W : Type 0} (m : Meaning W) (part : List Row) (sh : Shape) where
+module _ {W : Type 0} (m : Meaning W) (part : List Row) (sh : Kept) where
   -- z is what the whole run comes to, and so what the rows that are left come to
   module _ (z : Ended W) (k : ℕ) (rows : List Row) (i : ℕ) (r : Row) (σ : List W) (inv : z ≡ run-rows m part sh k (drop i rows) σ)
       (inside : i < length rows) (read : r ≡ getD rows i r) where

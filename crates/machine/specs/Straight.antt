@@ -8,13 +8,13 @@ use lib.ListN.{drop}
 use Rattle.domain.specs.Meaning.{Meaning}
 use Rattle.region.specs.declared.row.Row.{Row}
 use Rattle.region.specs.declared.row.Row.the-variants.{Act, Exit, Join}
-use Rattle.region.specs.declared.shape.Shape.{Shape}
+use Rattle.region.specs.Kept.{Kept}
 use Rattle.region.specs.Rows.{actions}
 use Rattle.region.specs.Layout.{exit-rows, join-rows}
 use Rattle.region.specs.Lines.{entered, places-of}
 use Rattle.region.specs.Machine.{Ended, step, word, onward, perform, reached}
 
-module _ {W : Type 0} (m : Meaning W) (part : List Row) (sh : Shape) where
+module _ {W : Type 0} (m : Meaning W) (part : List Row) (sh : Kept) where
   unfoldable pub run-rows : ℕ → List Row → List W → Ended W
   run-rows k [] σ = reached m (sh .end) σ
   run-rows k (Act a ∷ rs) σ = onward m (step m a σ) σ (run-rows k rs)
@@ -24,7 +24,7 @@ module _ {W : Type 0} (m : Meaning W) (part : List Row) (sh : Shape) where
 
 -- Entry j + 1 of the places that main rows make, with n joins in all, runs the j-th join's piece, counted from 0,
 -- and then the rows below `place`, which has so many exits above it.
-abbrev pub Enters : (part : List Row) (sh : Shape) (j n : ℕ) (main : List Row) (place exits : ℕ) → Type 0
+abbrev pub Enters : (part : List Row) (sh : Kept) (j n : ℕ) (main : List Row) (place exits : ℕ) → Type 0
 Enters part sh j n main place exits =
     entered (suc j) (places-of part sh 0 0 n main)
     ≡ record { piece = actions (join-rows part sh j); places = places-of part sh exits (suc j) (n - suc j) (drop place main) }

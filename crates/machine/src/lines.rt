@@ -5,7 +5,7 @@ ghost use mathlib.Core.List.{List};
 ghost use Prim.Native.Nat.{ℕ, _+_, _<_, _≤_};
 ghost use lib.ListN.{length};
 ghost use Rattle.region.specs.declared.row.Row.{Row as RowOf};
-ghost use Rattle.region.specs.declared.shape.Shape.{Shape as ShapeOf};
+ghost use Rattle.region.specs.Kept.{Kept, kept};
 ghost use Rattle.region.specs.Lines.{assembled};
 ghost use Rattle.region.specs.Parts.{rows-of};
 ghost use Rattle.region.specs.Rows.{actions};
@@ -61,7 +61,7 @@ fn run_rows<D: Domain>(
 ) -> Outcome
     requires state { ⌜ length (now state) ≡ 80 ⌝ }
     requires few { ⌜ above + length (now rows) ≤ 96 ⌝ }
-    ensures { λ r. ⌜ record { outcome = r; state = now (state .exit) } ≡ ran meaning (rows-of (part .entry)) (now (shape .entry)) above (now (rows .entry)) (now (state .entry)) ⌝ }
+    ensures { λ r. ⌜ record { outcome = r; state = now (state .exit) } ≡ ran meaning (rows-of (part .entry)) (kept (now (shape .entry))) above (now (rows .entry)) (now (state .entry)) ⌝ }
 {
     let mut exits = above;
     for row in rows {
@@ -87,7 +87,7 @@ fn run_rows<D: Domain>(
 fn below(main: &[Row], j: usize) -> Position
     ensures inside { λ r. ⌜ r .place ≤ length (now (main .entry)) ⌝ }
     ensures counted { λ r. ⌜ r .exits ≤ r .place ⌝ }
-    ensures entered { λ r. ⌜ ((part : List RowOf) (sh : ShapeOf) (n : ℕ) → j < n → Enters part sh j n (now (main .entry)) (r .place) (r .exits)) ⌝ }
+    ensures entered { λ r. ⌜ ((part : List RowOf) (sh : Kept) (n : ℕ) → j < n → Enters part sh j n (now (main .entry)) (r .place) (r .exits)) ⌝ }
 {
     let mut above = 0;
     let mut exits = 0;
@@ -125,7 +125,7 @@ fn run_from<D: Domain>(
 ) -> Outcome
     requires state { ⌜ length (now state) ≡ 80 ⌝ }
     requires entry { ⌜ entry ≤ now shape .joins ⌝ }
-    ensures { λ r. ⌜ record { outcome = r; state = now (state .exit) } ≡ run-of meaning (assembled side (rows-of (part .entry)) (now (shape .entry))) entry (now (state .entry)) ⌝ }
+    ensures { λ r. ⌜ record { outcome = r; state = now (state .exit) } ≡ run-of meaning (assembled side (rows-of (part .entry)) (kept (now (shape .entry)))) entry (now (state .entry)) ⌝ }
 {
     let main = part.main(side, shape);
     if entry == 0 {
@@ -146,8 +146,8 @@ pub fn run<D: Domain>(
     entry: usize,
     state: &mut [D],
 ) -> Result<Outcome, Misfit>
-    ensures answer { λ r. ⌜ r ≡ answered (run-in meaning side (now (rows .entry)) (now (shape .entry)) entry (now (state .entry))) ⌝ }
-    ensures after { λ _. ⌜ now (state .exit) ≡ state-after (now (state .entry)) (run-in meaning side (now (rows .entry)) (now (shape .entry)) entry (now (state .entry))) ⌝ }
+    ensures answer { λ r. ⌜ r ≡ answered (run-in meaning side (now (rows .entry)) (kept (now (shape .entry))) entry (now (state .entry))) ⌝ }
+    ensures after { λ _. ⌜ now (state .exit) ≡ state-after (now (state .entry)) (run-in meaning side (now (rows .entry)) (kept (now (shape .entry))) entry (now (state .entry))) ⌝ }
 {
     let Some(part) = Part::new(rows) else {
         return Err(Misfit::Rows);

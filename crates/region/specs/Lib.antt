@@ -1,6 +1,7 @@
 pub mod Numbers
 pub mod Rows
 pub mod Labels
+pub mod Kept
 pub mod Layout
 pub mod Parts
 pub mod Lines

@@ -6,8 +6,8 @@ use Rattle.region.specs.declared.numbers.LabelNumber.{LabelNumber}
 use Rattle.region.specs.declared.row.Action.{Action}
 use Rattle.region.specs.declared.row.Row.{Row}
 use Rattle.region.specs.declared.row.Row.the-variants.{Act, Exit, Join}
-use Rattle.region.specs.declared.shape.Shape.{Shape}
 use Rattle.region.specs.declared.side.Side.{Side}
+use Rattle.region.specs.Kept.{Kept}
 use Rattle.region.specs.Rows.{actions}
 use Rattle.region.specs.Layout.{main-rows, exit-rows, join-rows}
 
@@ -45,7 +45,7 @@ entered (suc zero) (join p ∷ rest) = record { piece = p; places = rest }
 entered (suc (suc j)) (join p ∷ rest) = entered (suc j) rest
 
 -- The line that a region's rows hold, whatever a caller wrote over them.
-module _ (part : List Row) (sh : Shape) where
+module _ (part : List Row) (sh : Kept) where
   -- joins from the j-th on that have no row: they stand at the end
   abbrev pub missing : (j left : ℕ) → List Place
   missing j zero = []
@@ -61,5 +61,5 @@ module _ (part : List Row) (sh : Shape) where
   places-of k j (suc n) (Join ∷ rs) = join (actions (join-rows part sh j)) ∷ places-of k (suc j) n rs
 
 -- the source or the schedule of a region, by its rows and by what is kept beside them
-abbrev pub assembled : Side → List Row → Shape → Line
+abbrev pub assembled : Side → List Row → Kept → Line
 assembled side part sh = record { places = places-of part sh 0 0 (sh .joins) (main-rows side part sh); end = sh .end }

@@ -17,8 +17,8 @@ use Rattle.region.specs.declared.outcome.Outcome.the-variants.{Reached, Trappe
 use Rattle.region.specs.declared.row.Action.{Action}
 use Rattle.region.specs.declared.row.Action.the-variants.{Operate, Literal, Load, Store}
 use Rattle.region.specs.declared.row.Row.{Row}
-use Rattle.region.specs.declared.shape.Shape.{Shape}
 use Rattle.region.specs.declared.side.Side.{Side}
+use Rattle.region.specs.Kept.{Kept}
 use Rattle.region.specs.Lines.{Place, act, exit, join, Line, entered, assembled}
 
 -- how a run ends, and the state that it leaves
@@ -74,7 +74,7 @@ module _ {W : Type 0} (m : Meaning W) where
 
   -- The run of a line that lies in a region's rows. There is none where the rows are not a region's 384,
   -- where the entry is above the number of joins that is kept, or where the state is not 80 words.
-  abbrev pub run-in : Side → List Row → Shape → ℕ → List W → Result (Ended W) Misfit
+  abbrev pub run-in : Side → List Row → Kept → ℕ → List W → Result (Ended W) Misfit
   run-in side part sh e σ =
       cond (eqb (length part) 384)
       (cond (ltb (sh .joins) e) (Err misfit.Entry)

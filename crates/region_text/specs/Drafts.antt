@@ -6,7 +6,8 @@ use Rattle.region.specs.declared.row.Row.{Row}
 use Rattle.region.specs.declared.label.LabelRow.{LabelRow}
 use Rattle.region.specs.Labels.{unused}
 use Rattle.region.specs.Rows.{blank, laid}
-use Rattle.region.specs.Listing.{Kept, kept, source-kept}
+use Rattle.region.specs.Kept.{Kept, kept}
+use Rattle.region.specs.Listing.{source-kept}
 use Rattle.region_text.specs.declared.draft.SourceDraft.{SourceDraft}
 use Rattle.region_text.specs.declared.fault.Refusal.{Refusal}
 use Rattle.region_text.specs.Sources.{Source}

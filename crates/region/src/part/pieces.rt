@@ -3,6 +3,7 @@ ghost use mathlib.Core.Path.{_≡_};
 ghost use Prim.Native.Nat.{_≤_};
 ghost use lib.ListN.{length};
 ghost use Rattle.std.specs.Options.{mapped};
+ghost use Rattle.region.specs.Kept.{kept};
 ghost use Rattle.region.specs.Layout.{main-at, main-rows, exit-rows, join-rows};
 ghost use Rattle.region.specs.Parts.{part-of, rows-of};
 use super::super::layout::EXIT_PIECES;
@@ -40,7 +41,7 @@ impl<'a> Part<'a> {
 
     /// The main rows of a line.
     pub fn main(self, side: Side, shape: &Shape) -> &'a [Row]
-        ensures rows { λ r. ⌜ now r ≡ main-rows side (rows-of (self .entry)) (now (shape .entry)) ⌝ }
+        ensures rows { λ r. ⌜ now r ≡ main-rows side (rows-of (self .entry)) (kept (now (shape .entry))) ⌝ }
         ensures few { λ r. ⌜ length (now r) ≤ 96 ⌝ }
     {
         let rows = self.rows;
@@ -50,7 +51,7 @@ impl<'a> Part<'a> {
 
     /// The rows of an exit's piece, counted from 0: none beyond the eighth exit.
     pub fn exit_piece(self, shape: &Shape, k: usize) -> &'a [Row]
-        ensures rows { λ r. ⌜ now r ≡ exit-rows (rows-of (self .entry)) (now (shape .entry)) k ⌝ }
+        ensures rows { λ r. ⌜ now r ≡ exit-rows (rows-of (self .entry)) (kept (now (shape .entry))) k ⌝ }
         ensures few { λ r. ⌜ length (now r) ≤ 16 ⌝ }
     {
         let rows = self.rows;
@@ -63,7 +64,7 @@ impl<'a> Part<'a> {
 
     /// The rows of a join's piece, counted from 0: none beyond the fourth join.
     pub fn join_piece(self, shape: &Shape, j: usize) -> &'a [Row]
-        ensures rows { λ r. ⌜ now r ≡ join-rows (rows-of (self .entry)) (now (shape .entry)) j ⌝ }
+        ensures rows { λ r. ⌜ now r ≡ join-rows (rows-of (self .entry)) (kept (now (shape .entry))) j ⌝ }
         ensures few { λ r. ⌜ length (now r) ≤ 16 ⌝ }
     {
         let rows = self.rows;

@@ -2,7 +2,8 @@
 ghost use mathlib.Core.Path.{_≡_};
 ghost use Prim.Native.Nat.{_≤_};
 ghost use lib.ListN.{getD};
-ghost use Rattle.region.specs.Listing.{listed, kept, source-kept};
+ghost use Rattle.region.specs.Kept.{kept};
+ghost use Rattle.region.specs.Listing.{listed, source-kept};
 use super::super::layout::EXITS;
 use super::super::layout::JOINS;
 use super::super::main_rows::MainRows;
