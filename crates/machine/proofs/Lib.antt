@@ -1,4 +1,3 @@
 pub mod Performing
 pub mod Running
-pub mod Entering
 pub mod Misfits

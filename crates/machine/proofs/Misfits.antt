@@ -1,13 +1,9 @@
 -- When there is a run of what lies in a region's rows, and when there is none.
-use mathlib.Core.Path.{_≡_, refl, ap, _∙_}
-use mathlib.Core.Bool.{Bool, true, false, cond}
+use mathlib.Core.Path.{_≡_, ap}
 use mathlib.Core.List.{List}
 use Prim.Native.Nat.{ℕ, _<_, _≤_}
-use native.Mathlib.Omega.{arith}
-use lib.Dec.{eqb}
 use lib.ListN.{length}
-use Rattle.std.proofs.shelf.Tests.{eq-eqb, ne-eqb, lt-ltb, le-ltb, eqb-true}
-use Rattle.std.specs.declared.option.Option.the-variants.{Some, None}
+use Rattle.std.proofs.shelf.Tests.{eq-eqb, ne-eqb, lt-ltb, le-ltb}
 use Rattle.std.specs.declared.result.Result.the-variants.{Ok, Err}
 use Rattle.domain.specs.Meaning.{Meaning}
 use Rattle.region.specs.declared.outcome.Misfit.the-variants as misfit
@@ -15,7 +11,6 @@ use Rattle.region.specs.declared.row.Row.{Row}
 use Rattle.region.specs.Kept.{Kept}
 use Rattle.region.specs.declared.side.Side.{Side}
 use Rattle.region.specs.Lines.{assembled}
-use Rattle.region.specs.Parts.{part-of}
 use Rattle.region.specs.Machine.{Ended, run, run-in}
 
 module _ {W : Type 0} (m : Meaning W) (side : Side) (part : List Row) (sh : Kept) (e : ℕ) (σ : List W) where
@@ -30,15 +25,3 @@ module _ {W : Type 0} (m : Meaning W) (side : Side) (part : List Row) (sh : Kept
 
   pub a-run : (z : Ended W) → length part ≡ 384 → e ≤ sh .joins → length σ ≡ 80 → z ≡ run m (assembled side part sh) e σ → Ok z ≡ run-in m side part sh e σ
   a-run z a b c d = rw (eq-eqb (length part) 384 a, le-ltb (sh .joins) e b, eq-eqb (length σ) 80 c) (ap Ok d)
-
-pub not-a-part : (rows : List Row) → None ≡ part-of rows → length rows ≡ 384 → ⊥
-not-a-part rows e h =
-    let f : None ≡ Some rows = e ∙ ap (λ b. cond b (Some rows) None) (eq-eqb (length rows) 384 h) in
-    let z : _≡_ {A = ℕ} 0 1 = cc in omega arith
-
-pub a-part : (rows p : List Row) → Some p ≡ part-of rows → (length rows ≡ 384) × (p ≡ rows)
-a-part rows p e = go (eqb (length rows) 384) refl
-  where
-    go : (b : Bool) → eqb (length rows) 384 ≡ b → (length rows ≡ 384) × (p ≡ rows)
-    go true t = let f : Some p ≡ Some rows = e ∙ ap (λ b. cond b (Some rows) None) t in (eqb-true (length rows) 384 t, cc)
-    go false t = let f : Some p ≡ None = e ∙ ap (λ b. cond b (Some rows) None) t in absurd (let z : _≡_ {A = ℕ} 0 1 = cc in omega arith)

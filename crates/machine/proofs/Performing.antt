@@ -8,17 +8,14 @@ use lib.ListN.{length, getD, drop}
 use Rattle.std.specs.Options.{isSome}
 use Rattle.std.specs.declared.option.Option.{Option}
 use Rattle.std.specs.declared.option.Option.the-variants.{Some, None}
-use Rattle.std.proofs.shelf.Lists.{drop-more, drop-all}
+use Rattle.std.proofs.shelf.Lists.{drop-all}
 use Rattle.domain.specs.Meaning.{Meaning}
 use Rattle.region.specs.declared.row.Action.{Action}
 use Rattle.region.specs.declared.row.Row.{Row}
 use Rattle.region.specs.declared.row.Row.the-variants.{Act, Exit, Join}
+use Rattle.region.proofs.ToJoins.{here}
 use Rattle.region.specs.Rows.{actions}
 use Rattle.region.specs.Machine.{Ended, step, after-step, onward, perform, trapped}
-
--- the rows that are left begin with the row here
-pub here : {R : Type 0} (rows : List R) (i : ℕ) (r : R) → i < length rows → r ≡ getD rows i r → drop i rows ≡ r ∷ drop (i + 1) rows
-here rows i r h e = drop-more rows i r h ∙ ap (λ x. x ∷ drop (i + 1) rows) (sym e)
 
 -- whatever comes after them, actions from one state do what others do from another
 pub record Do-alike {W : Type 0} (m : Meaning W) (p : List Action) (σ : List W) (q : List Action) (τ : List W) : Type 0 where

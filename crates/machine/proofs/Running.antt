@@ -18,8 +18,10 @@ use Rattle.region.specs.declared.side.Side.{Side}
 use Rattle.region.specs.Layout.{exit-rows, join-rows, main-rows}
 use Rattle.region.specs.Lines.{Start, entered, missing, places-of, assembled}
 use Rattle.region.specs.Machine.{Ended, word, step, after-step, onward, perform, trapped, reached, run-places, run}
-use Rattle.machine.specs.Straight.{Enters, run-rows}
-use Rattle.machine.proofs.Performing.{here, onward-traps, onward-goes}
+use Rattle.region.specs.Entries.{Enters}
+use Rattle.machine.specs.Straight.{run-rows}
+use Rattle.region.proofs.ToJoins.{here}
+use Rattle.machine.proofs.Performing.{onward-traps, onward-goes}
 
 module _ {W : Type 0} (m : Meaning W) (part : List Row) (sh : Kept) where
   -- z is what the whole run comes to, and so what the rows that are left come to

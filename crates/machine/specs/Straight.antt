@@ -2,16 +2,13 @@
 -- The runs that it gives are shown to be those of the places that the rows make.
 use mathlib.Core.Bool.{cond}
 use mathlib.Core.List.{List, [], _∷_}
-use mathlib.Core.Path.{_≡_}
-use Prim.Native.Nat.{ℕ, suc, _+_, _-_}
-use lib.ListN.{drop}
+use Prim.Native.Nat.{ℕ, _+_}
 use Rattle.domain.specs.Meaning.{Meaning}
 use Rattle.region.specs.declared.row.Row.{Row}
 use Rattle.region.specs.declared.row.Row.the-variants.{Act, Exit, Join}
 use Rattle.region.specs.Kept.{Kept}
 use Rattle.region.specs.Rows.{actions}
-use Rattle.region.specs.Layout.{exit-rows, join-rows}
-use Rattle.region.specs.Lines.{entered, places-of}
+use Rattle.region.specs.Layout.{exit-rows}
 use Rattle.region.specs.Machine.{Ended, step, word, onward, perform, reached}
 
 module _ {W : Type 0} (m : Meaning W) (part : List Row) (sh : Kept) where
@@ -21,10 +18,3 @@ module _ {W : Type 0} (m : Meaning W) (part : List Row) (sh : Kept) where
   run-rows k (Exit t l ∷ rs) σ =
       cond (m .truth (word m σ (t .index))) (perform m (actions (exit-rows part sh k)) σ (reached m l)) (run-rows (k + 1) rs σ)
   run-rows k (Join ∷ rs) σ = run-rows k rs σ
-
--- Entry j + 1 of the places that main rows make, with n joins in all, runs the j-th join's piece, counted from 0,
--- and then the rows below `place`, which has so many exits above it.
-abbrev pub Enters : (part : List Row) (sh : Kept) (j n : ℕ) (main : List Row) (place exits : ℕ) → Type 0
-Enters part sh j n main place exits =
-    entered (suc j) (places-of part sh 0 0 n main)
-    ≡ record { piece = actions (join-rows part sh j); places = places-of part sh exits (suc j) (n - suc j) (drop place main) }

@@ -1,6 +1,5 @@
 // The machine: one interpreter of a region's rows, for every domain of words.
 mod actions;
 mod lines;
-mod position;
 
 pub use lines::run;

@@ -4,25 +4,25 @@ ghost use mathlib.Core.Bool.{cond};
 ghost use mathlib.Core.List.{List};
 ghost use Prim.Native.Nat.{ℕ, _+_, _<_, _≤_};
 ghost use lib.ListN.{length};
-ghost use Rattle.region.specs.declared.row.Row.{Row as RowOf};
-ghost use Rattle.region.specs.Kept.{Kept, kept};
+ghost use Rattle.region.specs.Kept.{kept};
 ghost use Rattle.region.specs.Lines.{assembled};
 ghost use Rattle.region.specs.Parts.{rows-of};
 ghost use Rattle.region.specs.Rows.{actions};
 ghost use Rattle.region.specs.Machine.{Ended, perform as performed, reached, trapped, run as run-of, run-in, answered, state-after};
-ghost use Rattle.machine.specs.Straight.{Enters, run-rows as ran};
+ghost use Rattle.machine.specs.Straight.{run-rows as ran};
 use super::actions::read;
 use super::actions::step;
-use super::position::Position;
 use domain::Domain;
 use region::LabelNumber;
 use region::Misfit;
 use region::Outcome;
 use region::Part;
+use region::Position;
 use region::Row;
 use region::STATE_WORDS;
 use region::Shape;
 use region::Side;
+use region::below;
 
 // The actions among the rows of a piece; false is a trap.
 fn perform<D: Domain>(rows: &[Row], state: &mut [D]) -> bool
@@ -81,38 +81,6 @@ fn run_rows<D: Domain>(
         }
     }
     Outcome::Reached(shape.end())
-}
-
-// The place below a join with j joins above it; a join that has no row stands at the end.
-fn below(main: &[Row], j: usize) -> Position
-    ensures inside { λ r. ⌜ r .place ≤ length (now (main .entry)) ⌝ }
-    ensures counted { λ r. ⌜ r .exits ≤ r .place ⌝ }
-    ensures entered { λ r. ⌜ ((part : List RowOf) (sh : Kept) (n : ℕ) → j < n → Enters part sh j n (now (main .entry)) (r .place) (r .exits)) ⌝ }
-{
-    let mut above = 0;
-    let mut exits = 0;
-    for (i, row) in main.iter().enumerate() {
-        match *row {
-            Row::Act(_) => {}
-            Row::Exit {
-                tested: _,
-                label: _,
-            } => exits += 1,
-            Row::Join => {
-                if above == j {
-                    return Position {
-                        place: i + 1,
-                        exits,
-                    };
-                }
-                above += 1;
-            }
-        }
-    }
-    Position {
-        place: main.len(),
-        exits,
-    }
 }
 
 // A line from an entry that it has.

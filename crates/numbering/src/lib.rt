@@ -32,7 +32,8 @@ impl<'a, R: Kind + Copy> Table<'a, R> {
     pub fn len(&self) -> usize
         ensures { λ r. ⌜ r ≡ length (used (now (self .entry))) ⌝ }
     {
-        self.len
+        let count = self.len;
+        count
     }
 
     /// The number of the row, or `None` where it has none.

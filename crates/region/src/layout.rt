@@ -12,6 +12,10 @@ pub const MAIN_ROWS: usize = 96;
 pub const EXITS: usize = 8;
 /// The most joins of a line.
 pub const JOINS: usize = 4;
+/// The pieces of a line: one for each exit, and then one for each join.
+pub const PIECES: usize = 12;
+/// The rows of a schedule: its main line and its pieces.
+pub const SCHEDULE_ROWS: usize = 288;
 /// The most rows of a piece.
 pub const PIECE_ROWS: usize = 16;
 /// Where the pieces of the exits begin.

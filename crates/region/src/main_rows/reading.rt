@@ -3,7 +3,7 @@ ghost use mathlib.Core.Path.{_≡_};
 ghost use mathlib.Core.List.{[]};
 ghost use Prim.Native.Nat.{_≤_};
 ghost use lib.ListN.{length};
-ghost use Rattle.region.specs.Rows.{blank, joins-in, laid};
+ghost use Rattle.region.specs.Rows.{blank, exits-in, joins-in, laid};
 ghost use Rattle.region.specs.Listing.{listed};
 use super::super::row::Row;
 use super::MainRows;
@@ -29,8 +29,16 @@ impl MainRows {
         self.len as usize
     }
 
-    // How many joins were put in.
-    pub(crate) fn joins(&self) -> u8
+    /// How many exits were put in.
+    pub fn exits(&self) -> u8
+        ensures count { λ r. ⌜ r ≡ exits-in (listed (now (self .entry))) ⌝ }
+        ensures few { λ r. ⌜ r ≤ 8 ⌝ }
+    {
+        self.exits
+    }
+
+    /// How many joins were put in.
+    pub fn joins(&self) -> u8
         ensures count { λ r. ⌜ r ≡ joins-in (listed (now (self .entry))) ⌝ }
         ensures few { λ r. ⌜ r ≤ 4 ⌝ }
     {

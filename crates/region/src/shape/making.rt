@@ -3,10 +3,12 @@ ghost use mathlib.Core.Path.{_≡_};
 ghost use Prim.Native.Nat.{_≤_};
 ghost use lib.ListN.{getD};
 ghost use Rattle.region.specs.Kept.{kept};
-ghost use Rattle.region.specs.Listing.{listed, source-kept};
+ghost use Rattle.region.specs.Listing.{listed, listed-pieces, schedule-kept, source-kept};
+ghost use Rattle.region.specs.Pieces.{exit-pieces, join-pieces};
 use super::super::layout::EXITS;
 use super::super::layout::JOINS;
 use super::super::main_rows::MainRows;
+use super::super::piece_rows::PieceRows;
 use super::LabelNumber;
 use super::Shape;
 
@@ -19,6 +21,19 @@ impl Shape {
             rows: main.len() as u8,
             exits: [0; 8],
             entries: [0; 4],
+            joins: main.joins(),
+            end,
+        }
+    }
+
+    /// What is kept of a schedule that has these main rows, these pieces and that end label.
+    pub fn of_schedule(main: &MainRows, pieces: &PieceRows, end: LabelNumber) -> Shape
+        ensures { λ r. ⌜ kept r ≡ schedule-kept (listed (now (main .entry))) (exit-pieces (listed-pieces (now (pieces .entry)))) (join-pieces (listed-pieces (now (pieces .entry)))) end ⌝ }
+    {
+        Shape {
+            rows: main.len() as u8,
+            exits: pieces.exit_lens(),
+            entries: pieces.join_lens(),
             joins: main.joins(),
             end,
         }

@@ -4,7 +4,8 @@ use native.Mathlib.Omega.{arith}
 use Rattle.region.specs.Machine.{answered, state-after, run}
 use Rattle.region.specs.Lines.{assembled}
 use Rattle.region.specs.Parts.{rows-of}
-use Rattle.machine.proofs.Misfits.{no-rows, no-entry, no-state, a-run, a-part, not-a-part}
+use Rattle.region.proofs.Whole.{a-part, not-a-part}
+use Rattle.machine.proofs.Misfits.{no-rows, no-entry, no-state, a-run}
 use Rattle.region.specs.Kept.{kept}
 use Rattle.machine.proofs.lines.run.Needs as need
 

@@ -5,18 +5,21 @@ use Prim.Native.Nat.{ℕ, zero, suc, _+_, _-_, _<_, _≤_}
 use native.Mathlib.Omega.{arith}
 use native.Mathlib.Numerals.{add-one}
 use lib.ListN.{length, getD, drop}
-use Rattle.std.proofs.shelf.Lists.{drop-all}
+use Rattle.std.proofs.shelf.Lists.{drop-more, drop-all}
 use Rattle.region.specs.declared.row.Action.{Action}
 use Rattle.region.specs.declared.numbers.LabelNumber.{LabelNumber}
 use Rattle.region.specs.declared.numbers.Register.{Register}
 use Rattle.region.specs.declared.row.Row.{Row}
 use Rattle.region.specs.declared.row.Row.the-variants.{Act, Exit, Join}
 use Rattle.region.specs.Kept.{Kept}
 use Rattle.region.specs.Rows.{actions}
 use Rattle.region.specs.Layout.{join-rows}
 use Rattle.region.specs.Lines.{Start, entered, missing, places-of}
-use Rattle.machine.specs.Straight.{Enters}
-use Rattle.machine.proofs.Performing.{here}
+use Rattle.region.specs.Entries.{Enters}
+
+-- the rows that are left begin with the row here
+pub here : {R : Type 0} (rows : List R) (i : ℕ) (r : R) → i < length rows → r ≡ getD rows i r → drop i rows ≡ r ∷ drop (i + 1) rows
+here rows i r h e = drop-more rows i r h ∙ ap (λ x. x ∷ drop (i + 1) rows) (sym e)
 
 -- Entry j + 1 of main rows is entry j + 1 - above of the rows that are left, which have so many joins and exits above them.
 pub record Toward (j : ℕ) (main : List Row) (above exits : ℕ) (left : List Row) : Type 0 where

@@ -2,7 +2,7 @@
 
 /// A place among main rows: how many rows and how many exits stand above it.
 #[derive(Clone, Copy)]
-pub(crate) struct Position {
-    pub(crate) place: usize,
-    pub(crate) exits: usize,
+pub struct Position {
+    pub place: usize,
+    pub exits: usize,
 }

@@ -2,9 +2,9 @@ use borrow.Author.Needs.{needs}
 use mathlib.Core.Path.{_≡_, refl}
 use Prim.Native.Nat.{_-_}
 use native.Mathlib.Omega.{arith}
-use Rattle.machine.proofs.Entering.{past-action, past-exit, past-join, at-join, at-end}
-use Rattle.machine.proofs.lines.below.Needs as need
-use Rattle.machine.proofs.lines.below.Needs.{in-Act, in-Exit, in-Join·else-above-j}
+use Rattle.region.proofs.ToJoins.{past-action, past-exit, past-join, at-join, at-end}
+use Rattle.region.proofs.entering.below.Needs as need
+use Rattle.region.proofs.entering.below.Needs.{in-Act, in-Exit, in-Join·else-above-j}
 
 pub loop-i-holds : need.loop-i-holds
 loop-i-holds c = (
