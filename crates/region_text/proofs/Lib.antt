@@ -2,6 +2,8 @@ pub mod Splits
 pub mod Digits
 pub mod Masks
 pub mod NameLaws
+pub mod Lookups
 pub mod Declaring
 pub mod Placing
 pub mod Whole
+pub mod Refused

@@ -18,7 +18,8 @@ use Rattle.region_text.specs.declared.fault.Refusal.{Refusal}
 use Rattle.region_text.specs.declared.label.Declared.{Declared}
 use Rattle.region_text.specs.Places.{rows-of, vacant}
 use Rattle.region_text.specs.Texts.{TextLine}
-use Rattle.region_text.specs.Sources.{Source, whole, read-lines}
+use Rattle.region_text.specs.Sources.{Source, source-of, read-lines}
+use Rattle.region_text.specs.Taking.{or-unended}
 use Rattle.region_text.specs.Readers.{Nine, labels-of, reading}
 use Rattle.region_text.specs.Drafts.{laid-source}
 use Rattle.region_text.specs.Readers.{drafted-into}
@@ -35,6 +36,6 @@ rows-laid xs =
 
 pub whole-draft : (t : Table Declared) (b : Body) (places : List Declared) (l : ℕ) (ls : List TextLine) (e : LabelNumber) (source : Result Source Refusal) → Nine t → ls ≡ [] → read-lines (reading t b) l ls ≡ source → b .end ≡ Some e → places ≡ t .rows .now → drafted-into (Ok (record { rows = b .rows; end = e })) places ≡ laid-source source
 whole-draft t b places l ls e source nine none inv ended same =
-    let said : source ≡ Ok (record { labels = labels-of t; rows = listed (b .rows); end = e }) = sym inv ∙ ap (read-lines (reading t b) l) none ∙ ap (whole (reading t b) l) ended in
+    let said : source ≡ Ok (record { labels = labels-of t; rows = listed (b .rows); end = e }) = sym inv ∙ ap (read-lines (reading t b) l) none ∙ ap (or-unended l (source-of (reading t b))) ended in
     let labels : rows-of places ≡ laid 9 unused (labels-of t) = ap rows-of (same ∙ nine .filled) ∙ rows-laid (used t) in
     rw (said, labels)

@@ -5,7 +5,9 @@ pub mod Numbers
 pub mod Letters
 pub mod Names
 pub mod Records
+pub mod Taking
 pub mod Sources
+pub mod Schedules
 pub mod Drafts
 pub mod Scanning
 pub mod Places

@@ -1,6 +1,6 @@
--- What the numbers of a row stand for, beside registers and banks.
-use mathlib.Core.Bool.{cond}
-use Prim.Native.Nat.{ℕ}
+-- What the numbers of a record stand for, beside registers and banks.
+use mathlib.Core.Bool.{cond, _&&_}
+use Prim.Native.Nat.{ℕ, _+_, _-_}
 use lib.Dec.{eqb, leb}
 use Rattle.std.specs.declared.option.Option.{Option}
 use Rattle.std.specs.declared.option.Option.the-variants.{Some, None}
@@ -23,3 +23,7 @@ op-at n =
 -- literals are 0 to 65535
 abbrev pub literal-at : ℕ → Option ℕ
 literal-at n = cond (leb n 65535) (Some n) None
+
+-- exits and joins are numbered from 1 to their count: the piece of number k, where that of number 1 is piece `first`
+abbrev pub piece-at : (first count : ℕ) → ℕ → Option ℕ
+piece-at first count k = cond (leb 1 k && leb k count) (Some (first + (k - 1))) None

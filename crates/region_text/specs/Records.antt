@@ -1,4 +1,4 @@
--- What a record of a source says.
+-- What a record says.
 use mathlib.Core.Bool.{cond}
 use mathlib.Core.List.{List}
 use Prim.Native.Nat.{ℕ, _+_}
@@ -20,7 +20,7 @@ use Rattle.region_text.specs.declared.letter.Letter.the-variants.{Operate, Lit
 use Rattle.region_text.specs.declared.fault.Fault.the-variants.{Malformed, Label}
 use Rattle.region_text.specs.declared.fault.Spot.{Spot}
 use Rattle.region_text.specs.declared.fault.FieldFault.{FieldFault}
-use Rattle.region_text.specs.Numbers.{op-at, literal-at}
+use Rattle.region_text.specs.Numbers.{op-at, literal-at, piece-at}
 use Rattle.region_text.specs.Fields.{or-fault, ranged, mask-field}
 use Rattle.region_text.specs.Texts.{field-at}
 use Rattle.region_text.specs.Names.{same-label}
@@ -83,6 +83,13 @@ module _ (l : ℕ) (fs : List (List ℕ)) where
   abbrev pub store-row : Result Row FieldFault
   store-row = then (number-in 1 bank-at) (λ k. then (number-in 2 register-at) (λ a. then (number-in 3 register-at) (λ s. Ok (row.Act (action.Store k a s)))))
 
-  -- X t label
+  -- X t label; and what it says where the last field says this
+  abbrev pub exit-to : Result LabelNumber FieldFault → Result Row FieldFault
+  exit-to label = then (number-in 1 register-at) (λ t. then label (λ e. Ok (row.Exit t e)))
+
   abbrev pub exit-row : List LabelRow → Result Row FieldFault
-  exit-row labels = then (number-in 1 register-at) (λ t. then (label-in labels 2) (λ e. Ok (row.Exit t e)))
+  exit-row labels = exit-to (label-in labels 2)
+
+  -- P k, Q j: the piece of a number up to count, where that of number 1 is piece `first`
+  abbrev pub piece-in : (first count : ℕ) → Result ℕ FieldFault
+  piece-in first count = number-in 1 (piece-at first count)

@@ -1,7 +1,7 @@
 -- What a source's text says.
 use mathlib.Core.Bool.{Bool, false, cond, not, _&&_}
 use mathlib.Core.List.{List, [], _∷_, _++_}
-use Prim.Native.Nat.{ℕ, _+_}
+use Prim.Native.Nat.{ℕ}
 use lib.Dec.{eqb, ltb}
 use lib.ListN.{length}
 use Rattle.std.specs.declared.option.Option.{Option}
@@ -16,14 +16,13 @@ use Rattle.region.specs.declared.label.LabelRow.{LabelRow}
 use Rattle.region.specs.Rows.{main-fits}
 use Rattle.region_text.specs.declared.letter.Letter.{Letter}
 use Rattle.region_text.specs.declared.letter.Letter.the-variants.{Declare, Operate, Literal, Load, Store, Exit, Join, End, ExitPiece, JoinPiece}
-use Rattle.region_text.specs.declared.fault.Fault.the-variants.{Malformed, TooMany, OutOfPlace}
+use Rattle.region_text.specs.declared.fault.Fault.the-variants.{TooMany, OutOfPlace}
 use Rattle.region_text.specs.declared.fault.FieldFault.{FieldFault}
 use Rattle.region_text.specs.declared.fault.LineFault.{LineFault}
 use Rattle.region_text.specs.declared.fault.LineFault.the-variants.{Field, Line}
 use Rattle.region_text.specs.declared.fault.Refusal.{Refusal}
-use Rattle.region_text.specs.Faults.{refusal-of, unended}
-use Rattle.region_text.specs.Texts.{TextLine, lines, fields}
-use Rattle.region_text.specs.Letters.{form}
+use Rattle.region_text.specs.Texts.{TextLine, lines}
+use Rattle.region_text.specs.Taking.{taken, or-unended, all-taken}
 use Rattle.region_text.specs.Records.{label-in, label-row, operate-row, literal-row, load-row, store-row, exit-row}
 
 -- what has been read of a source
@@ -80,14 +79,8 @@ take-record End r l fs = finish r (label-in l fs (r .labels) 1)
 take-record ExitPiece r l fs = Err (Line OutOfPlace l)
 take-record JoinPiece r l fs = Err (Line OutOfPlace l)
 
--- a record of line l: its place, and then what it adds
-abbrev pub placed : Reading → ℕ → List (List ℕ) → Option Letter → Result Reading LineFault
-placed r l fs None = Err (Line Malformed l)
-placed r l fs (Some c) = cond (in-place c r) (take-record c r l fs) (Err (Line OutOfPlace l))
-
--- One line more: first its form, then its place, then its fields from the left, then the sizes.
 abbrev pub take-line : Reading → ℕ → TextLine → Result Reading LineFault
-take-line r l x = placed r l (fields (x .bytes)) (form x)
+take-line = taken in-place take-record
 
 -- what a source's text says
 pub record Source : Type 0 where
@@ -95,15 +88,11 @@ pub record Source : Type 0 where
   pub rows : List Row
   pub end : LabelNumber
 
--- what was read is a source where it has its end; l is the line after the last
-abbrev pub whole : Reading → ℕ → Option LabelNumber → Result Source Refusal
-whole r l None = Err (unended l)
-whole r l (Some e) = Ok (record { labels = r .labels; rows = r .rows; end = e })
+abbrev pub source-of : Reading → LabelNumber → Source
+source-of r e = record { labels = r .labels; rows = r .rows; end = e }
 
--- the lines from line l on, after what was read: the first faulty line decides
 abbrev pub read-lines : Reading → ℕ → List TextLine → Result Source Refusal
-read-lines r l [] = whole r l (r .end)
-read-lines r l (x ∷ xs) = elim (take-line r l x) [ Err f ↦ Err (refusal-of f) | Ok s ↦ read-lines s (l + 1) xs ]
+read-lines = all-taken take-line (λ r l. or-unended l (source-of r) (r .end))
 
 abbrev pub read-source : List ℕ → Result Source Refusal
 read-source bs = read-lines nothing-read 1 (lines bs)

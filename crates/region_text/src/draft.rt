@@ -9,3 +9,10 @@ pub struct SourceDraft {
     pub rows: [Row; 96],
     pub shape: Shape,
 }
+
+/// A schedule as it was read: its main rows, the pieces of eight exits and those of four joins, with blank rows behind each, and what is kept of it beside them.
+#[derive(Clone, Copy)]
+pub struct ScheduleDraft {
+    pub rows: [Row; 288],
+    pub shape: Shape,
+}

@@ -2,7 +2,7 @@
 
 ghost use mathlib.Core.Path.{_≡_};
 ghost use Rattle.region_text.specs.declared.fault.LineFault.the-variants.{Field as Within, Line as Whole};
-ghost use Rattle.region_text.specs.Faults.{printed, refusal-of};
+ghost use Rattle.region_text.specs.Faults.{printed, refusal-of, unended};
 
 /// What is wrong, in the order of the printed numbers, which begin at 6.
 #[derive(Clone, Copy, PartialEq, Eq)]
@@ -94,6 +94,20 @@ pub struct Refusal {
     pub line: usize,
     pub field: usize,
     pub layer: Layer,
+}
+
+impl Refusal {
+    /// A text without its end, whose last line stands before that line.
+    pub(crate) fn unended(line: usize) -> Refusal
+        ensures { λ r. ⌜ r ≡ unended line ⌝ }
+    {
+        Refusal {
+            fault: Fault::OutOfPlace,
+            line,
+            field: 0,
+            layer: Layer::Shelf,
+        }
+    }
 }
 
 pub(crate) impl From<LineFault> for Refusal as RefusalFromLine {

@@ -21,7 +21,7 @@ pub(crate) impl Kind for Declared as DeclaredKind {
     }
 }
 
-fn same_name(a: Name, b: Name) -> bool
+pub(crate) fn same_name(a: Name, b: Name) -> bool
     ensures { λ r. ⌜ r ≡ sameBytes (a .bytes) (b .bytes) ⌝ }
 {
     a.bytes() == b.bytes()

@@ -90,7 +90,7 @@ impl Body {
             Letter::Literal => self.keep(line.literal_row(), number),
             Letter::Load => self.keep(line.load_row(), number),
             Letter::Store => self.keep(line.store_row(), number),
-            Letter::Exit => self.keep(line.exit_row(labels), number),
+            Letter::Exit => self.keep(line.exit_row(line.label_at(2, labels)), number),
             Letter::Join => self.keep(Ok(Row::Join), number),
             Letter::End => self.finish(labels, line),
             Letter::ExitPiece | Letter::JoinPiece => Err(Fault::OutOfPlace.in_line(number)),

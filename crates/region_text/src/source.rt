@@ -10,8 +10,6 @@ use super::body::Body;
 use super::body::WholeBody;
 use super::cursor::Lines;
 use super::draft::SourceDraft;
-use super::fault::Fault;
-use super::fault::Layer;
 use super::fault::Refusal;
 use super::fault::RefusalFromLine;
 use super::kinds::DeclaredKind;
@@ -36,12 +34,7 @@ fn read_body(text: &[u8], places: &mut [Declared]) -> Result<WholeBody, Refusal>
         body.take_line(&mut labels, line)?;
     }
     let Some(end) = body.end else {
-        return Err(Refusal {
-            fault: Fault::OutOfPlace,
-            line: lines.number,
-            field: 0,
-            layer: Layer::Shelf,
-        });
+        return Err(Refusal::unended(lines.number));
     };
     Ok(WholeBody {
         rows: body.rows,
