@@ -1,0 +1,11 @@
+pub mod Terms
+pub mod Walks
+pub mod Comparison
+pub mod Live
+pub mod Compared
+pub mod TermRows
+pub mod Tidy
+pub mod Straight
+pub mod Means
+pub mod Cursors
+pub mod Numbers
