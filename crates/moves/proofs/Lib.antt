@@ -1,0 +1,9 @@
+pub mod Same
+pub mod Values
+pub mod Simulation
+pub mod Found
+pub mod Soundness
+pub mod States
+pub mod Walks
+pub mod Completeness
+pub mod Examples
