@@ -7,9 +7,11 @@ pub struct Request {
     pub all: bool,
     pub trapping: bool,
     pub source: Option<usize>,
+    pub schedule: Option<usize>,
     pub entry: Option<usize>,
     pub words: Option<usize>,
     wants_domain: bool,
+    wants_schedule: bool,
 }
 
 /// What is wrong with the command line, and at which argument.
@@ -18,6 +20,7 @@ pub enum Misuse {
     UnknownOption(usize),
     UnknownDomain(usize),
     NoDomain,
+    NoSchedule,
     TooMany(usize),
     NoSource,
 }
@@ -30,9 +33,11 @@ impl Request {
             all: false,
             trapping: false,
             source: None,
+            schedule: None,
             entry: None,
             words: None,
             wants_domain: false,
+            wants_schedule: false,
         }
     }
 
@@ -47,10 +52,16 @@ impl Request {
             self.wants_domain = false;
             return Ok(self);
         }
+        if self.wants_schedule {
+            self.schedule = Some(number);
+            self.wants_schedule = false;
+            return Ok(self);
+        }
         match word {
             "--help" | "-h" => self.help = true,
             "--all" => self.all = true,
             "--domain" => self.wants_domain = true,
+            "--schedule" => self.wants_schedule = true,
             _ => return self.place(number, word),
         }
         Ok(self)
@@ -77,6 +88,9 @@ impl Request {
     pub fn whole(self) -> Result<Request, Misuse> {
         if self.wants_domain {
             return Err(Misuse::NoDomain);
+        }
+        if self.wants_schedule {
+            return Err(Misuse::NoSchedule);
         }
         if self.source.is_none() && !self.help {
             return Err(Misuse::NoSource);

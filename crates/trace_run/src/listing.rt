@@ -8,7 +8,7 @@ use region::LabelNumber;
 use region::LabelRow;
 use region::Name;
 use region::Row;
-use region_text::SourceDraft;
+use region::Shape;
 use std::alloc::AllocError;
 use std::alloc::Global;
 
@@ -107,7 +107,8 @@ fn exits_in(rows: &[Row]) -> usize {
     count
 }
 
-fn show_labels(rt: &LibcRuntime, labels: &[LabelRow]) -> Result<(), Trouble> {
+/// Prints the labels that are declared.
+pub fn show_labels(rt: &LibcRuntime, labels: &[LabelRow]) -> Result<(), Trouble> {
     for (number, label) in labels.iter().enumerate() {
         let row = *label;
         if row.name.is_some() {
@@ -119,22 +120,29 @@ fn show_labels(rt: &LibcRuntime, labels: &[LabelRow]) -> Result<(), Trouble> {
     Ok(())
 }
 
-/// Prints what was read of a source.
-pub fn show_source(rt: &LibcRuntime, path: &str, draft: &SourceDraft) -> Result<(), Trouble> {
-    let heap = rt.alloc();
-    let count = draft.shape.rows().min(96);
-    let rows = &draft.rows[0..count];
+fn show_rows(rt: &LibcRuntime, labels: &[LabelRow], rows: &[Row]) -> Result<(), Trouble> {
+    for (number, row) in rows.iter().enumerate() {
+        let text = row_text(rt.alloc(), labels, *row)?;
+        println!(rt, "row {number}: {text}")?;
+    }
+    Ok(())
+}
+
+/// Prints a line that a region's rows hold.
+pub fn show_line(
+    rt: &LibcRuntime,
+    path: &str,
+    labels: &[LabelRow],
+    rows: &[Row],
+    shape: &Shape,
+) -> Result<(), Trouble> {
     let exits = exits_in(rows);
-    let joins = draft.shape.joins();
-    let end = label_text(heap, &draft.labels, draft.shape.end())?;
+    let joins = shape.joins();
+    let count = rows.len();
+    let end = label_text(rt.alloc(), labels, shape.end())?;
     println!(
         rt,
         "{path}: rows {count}, exits {exits}, joins {joins}, end {end}"
     )?;
-    show_labels(rt, &draft.labels)?;
-    for (number, row) in rows.iter().enumerate() {
-        let text = row_text(heap, &draft.labels, *row)?;
-        println!(rt, "row {number}: {text}")?;
-    }
-    Ok(())
+    show_rows(rt, labels, rows)
 }

@@ -1,6 +1,7 @@
-// trace_run: reads the source of a region, runs it, and says what it did.
+// trace_run: reads the source of a region, and a schedule of it if there is one, runs what it read, and says what it did.
 mod arguments;
 mod listing;
+mod refusals;
 mod running;
 mod trouble;
 mod words;
@@ -8,20 +9,22 @@ mod words;
 use arguments::Misuse;
 use arguments::Request;
 use arguments::read_arguments;
-use domain::Domain;
 use domain::Trapping;
 use domain::TrappingDomain;
 use domain::Wrapping;
 use domain::WrappingDomain;
-use listing::show_source;
+use listing::show_labels;
+use refusals::refused;
+use region::LabelRow;
+use region::REGION_LABELS;
+use region::REGION_ROWS;
+use region::Row;
 use region::STATE_WORDS;
-use region_text::Fault;
-use region_text::Layer;
-use region_text::Refusal;
-use region_text::SourceDraft;
-use region_text::read_source;
+use region::Side;
 use running::Start;
-use running::run_source;
+use running::run_held;
+use running::show_held;
+use shelf::Shelf;
 use std::alloc::AllocError;
 use std::alloc::Global;
 use std::env;
@@ -36,16 +39,18 @@ use words::TrappingNumeral;
 use words::WrappingNumeral;
 use words::read_words;
 
-const USAGE: &str = "usage: trace_run [--domain w|t] [--all] SOURCE [ENTRY [WORDS]]
+const USAGE: &str =
+    "usage: trace_run [--domain w|t] [--all] [--schedule SCHEDULE] SOURCE [ENTRY [WORDS]]
 
 Reads the source text of a region from the file SOURCE, runs it from ENTRY (0 where none is given) on the 80 words of
 the file WORDS, one decimal a line (all zero where none is given), and prints what it read, how the run ended, and the
 words that changed.
 
-  --domain w   wrapping words, 32 bits without a sign (this is the default)
-  --domain t   trapping words, 32 bits with a sign
-  --all        print all 80 words after the run, one a line, in place of the changes
-  --help       print this text";
+  --domain w            wrapping words, 32 bits without a sign (this is the default)
+  --domain t            trapping words, 32 bits with a sign
+  --schedule SCHEDULE   read the schedule text SCHEDULE too, and run that in place of the source
+  --all                 print all 80 words after the run, one a line, in place of the changes
+  --help                print this text";
 
 fn misuse_text(heap: Global, misuse: Misuse, words: &[String]) -> Result<String, AllocError> {
     match misuse {
@@ -62,40 +67,9 @@ fn misuse_text(heap: Global, misuse: Misuse, words: &[String]) -> Result<String,
             format!(heap, "'{word}' is one argument too many; try --help")
         }
         Misuse::NoDomain => format!(heap, "--domain wants w or t after it"),
+        Misuse::NoSchedule => format!(heap, "--schedule wants a file after it"),
         _ => format!(heap, "which SOURCE? try --help"),
     }
-}
-
-// What a fault means, in a few words.
-fn fault_words(fault: Fault) -> &'static str {
-    match fault {
-        Fault::Malformed =>
-            "unknown letter, wrong number of fields, no LF at the end, or a malformed field",
-        Fault::OutOfRange => "number out of its range",
-        Fault::Label => "label not declared, or declared twice",
-        Fault::TooMany => "one too many",
-        Fault::OutOfPlace => "record in the wrong place, or no E record",
-    }
-}
-
-fn layer_name(layer: Layer) -> &'static str {
-    match layer {
-        Layer::Field => "field",
-        Layer::Line => "line",
-        Layer::Shelf => "shelf",
-    }
-}
-
-fn refusal_text(heap: Global, path: &str, refusal: Refusal) -> Result<String, AllocError> {
-    let number = refusal.fault.number();
-    let line = refusal.line;
-    let field = refusal.field;
-    let layer = layer_name(refusal.layer);
-    let words = fault_words(refusal.fault);
-    format!(
-        heap,
-        "{path}: line {line}, field {field}: {words} (refusal {number}, layer {layer})"
-    )
 }
 
 // The bytes of a file.
@@ -106,12 +80,32 @@ fn load(rt: &LibcRuntime, path: &str) -> Result<Vec<u8>, Trouble> {
     }
 }
 
-fn load_source(rt: &LibcRuntime, path: &str) -> Result<SourceDraft, Trouble> {
-    let bytes = load(rt, path)?;
-    match read_source(bytes.as_slice()) {
-        Ok(draft) => Ok(draft),
-        Err(refusal) => Err(Trouble::Said(refusal_text(rt.alloc(), path, refusal)?)),
+// Puts the source, and the schedule if there is one, into region 0, and prints them.
+fn hold(
+    rt: &LibcRuntime,
+    shelf: &mut Shelf,
+    rows: &mut [Row],
+    labels: &mut [LabelRow],
+    source: &str,
+    schedule: Option<&str>,
+) -> Result<(), Trouble> {
+    if let Err(refusal) = shelf.open(rows, labels) {
+        return Err(refused(rt.alloc(), "open", refusal));
     }
+    let text = load(rt, source)?;
+    if let Err(refusal) = shelf.put_source(rows, labels, 0, text.as_slice()) {
+        return Err(refused(rt.alloc(), source, refusal));
+    }
+    show_labels(rt, labels)?;
+    show_held(rt, source, shelf, rows, labels, Side::Source)?;
+    if let Some(path) = schedule {
+        let text = load(rt, path)?;
+        if let Err(refusal) = shelf.put_schedule(rows, labels, 0, text.as_slice()) {
+            return Err(refused(rt.alloc(), path, refusal));
+        }
+        show_held(rt, path, shelf, rows, labels, Side::Schedule)?;
+    }
+    Ok(())
 }
 
 fn read_entry(heap: Global, word: &str) -> Result<usize, Trouble> {
@@ -129,9 +123,12 @@ fn load_words<D: Numeral>(rt: &LibcRuntime, path: &str, state: &mut [D]) -> Resu
     }
 }
 
-// Reads the words, where there is a file of them, and runs the source.
+// Reads the words, where there is a file of them, and runs what the region holds.
 fn run_in<D: Numeral>(
     rt: &LibcRuntime,
+    shelf: &Shelf,
+    rows: &[Row],
+    labels: &[LabelRow],
     start: Start,
     words: Option<&str>,
     state: &mut [D],
@@ -139,7 +136,7 @@ fn run_in<D: Numeral>(
     if let Some(path) = words {
         load_words(rt, path, state)?;
     }
-    run_source(rt, start, state)
+    run_held(rt, shelf, rows, labels, start, state)
 }
 
 fn argument(words: &[String], at: Option<usize>) -> Option<&str> {
@@ -149,33 +146,65 @@ fn argument(words: &[String], at: Option<usize>) -> Option<&str> {
     }
 }
 
-fn serve(rt: &LibcRuntime, request: Request, words: &[String]) -> Result<(), Trouble> {
-    if request.help {
-        println!(rt, "{USAGE}")?;
-        return Ok(());
-    }
-    let Some(path) = argument(words, request.source) else {
-        return Ok(());
-    };
+// Where and how to run.
+fn start_of(heap: Global, request: Request, words: &[String]) -> Result<Start, Trouble> {
     let entry = match argument(words, request.entry) {
-        Some(word) => read_entry(rt.alloc(), word)?,
+        Some(word) => read_entry(heap, word)?,
         None => 0,
     };
-    let source = load_source(rt, path)?;
-    show_source(rt, path, &source)?;
-    let all = request.all;
-    let start = Start {
-        source: &source,
-        entry,
-        all,
+    let side = if request.schedule.is_some() {
+        Side::Schedule
+    } else {
+        Side::Source
     };
+    Ok(Start {
+        side,
+        entry,
+        all: request.all,
+    })
+}
+
+fn serve(rt: &LibcRuntime, request: Request, words: &[String]) -> Result<(), Trouble> {
+    let Some(source) = argument(words, request.source) else {
+        println!(rt, "{USAGE}")?;
+        return Ok(());
+    };
+    let start = start_of(rt.alloc(), request, words)?;
+    let mut shelf = Shelf::new();
+    let mut rows = [Row::blank(); REGION_ROWS];
+    let mut labels = [LabelRow::unused(); REGION_LABELS];
+    hold(
+        rt,
+        &mut shelf,
+        &mut rows,
+        &mut labels,
+        source,
+        argument(words, request.schedule),
+    )?;
+    let entry = start.entry;
     let state = argument(words, request.words);
     if request.trapping {
         println!(rt, "run from entry {entry} in domain t")?;
-        run_in(rt, start, state, &mut [Trapping { value: 0 }; STATE_WORDS])
+        run_in(
+            rt,
+            &shelf,
+            &rows,
+            &labels,
+            start,
+            state,
+            &mut [Trapping { value: 0 }; STATE_WORDS],
+        )
     } else {
         println!(rt, "run from entry {entry} in domain w")?;
-        run_in(rt, start, state, &mut [Wrapping { value: 0 }; STATE_WORDS])
+        run_in(
+            rt,
+            &shelf,
+            &rows,
+            &labels,
+            start,
+            state,
+            &mut [Wrapping { value: 0 }; STATE_WORDS],
+        )
     }
 }
 
@@ -185,6 +214,10 @@ fn start(rt: &LibcRuntime) -> Result<(), Trouble> {
         words.push(word)?;
     }
     match read_arguments(words.as_slice()) {
+        Ok(request) if request.help => {
+            println!(rt, "{USAGE}")?;
+            Ok(())
+        }
         Ok(request) => serve(rt, request, words.as_slice()),
         Err(misuse) => Err(Trouble::Said(misuse_text(rt.alloc(), misuse, words.as_slice())?)),
     }

@@ -1,54 +1,53 @@
-// The run of a source, told step by step.
+// The run of what a region holds, told step by step.
 use super::listing::label_text;
+use super::listing::show_line;
+use super::refusals::refused;
 use super::trouble::Trouble;
 use super::trouble::TroubleFromAlloc;
 use super::trouble::TroubleFromIo;
 use super::trouble::TroubleFromRefused;
 use super::words::Numeral;
-use machine::run;
-use region::Misfit;
+use region::LabelRow;
 use region::Outcome;
-use region::REGION_ROWS;
+use region::Part;
 use region::Row;
 use region::Side;
-use region_text::SourceDraft;
+use shelf::Shelf;
 use std::alloc::Global;
 
 /// What is to be run, and from where.
 #[derive(Clone, Copy)]
-pub struct Start<'a> {
-    pub source: &'a SourceDraft,
+pub struct Start {
+    pub side: Side,
     pub entry: usize,
     pub all: bool,
 }
 
-// The rows of a region that holds only the source.
-fn region_rows(source: &SourceDraft) -> [Row; REGION_ROWS] {
-    let mut rows = [Row::blank(); REGION_ROWS];
-    for (i, row) in source.rows.iter().enumerate() {
-        rows[i] = *row;
-    }
-    rows
-}
-
-fn misfit_text(heap: Global, start: Start, misfit: Misfit) -> Trouble {
-    let joins = start.source.shape.joins();
-    let entry = start.entry;
-    let said = match misfit {
-        Misfit::Entry => format!(
-            heap,
-            "entry {entry}: the source has {joins} joins, so its entries are 0 to {joins}"
-        ),
-        Misfit::Rows => format!(heap, "the rows are no region's"),
-        Misfit::State => format!(heap, "a state has 80 words"),
+/// Prints the source or the schedule that the region holds.
+pub fn show_held(
+    rt: &LibcRuntime,
+    path: &str,
+    shelf: &Shelf,
+    rows: &[Row],
+    labels: &[LabelRow],
+    side: Side,
+) -> Result<(), Trouble> {
+    let record = match shelf.kept(0) {
+        Ok(record) => record,
+        Err(refusal) => return Err(refused(rt.alloc(), path, refusal)),
     };
-    match said {
-        Ok(text) => Trouble::Said(text),
-        Err(_) => Trouble::Memory,
+    let held = match side {
+        Side::Source => record.source,
+        Side::Schedule => record.schedule,
+    };
+    if let Some(shape) = held {
+        if let Some(part) = Part::new(rows) {
+            return show_line(rt, path, labels, part.main(side, &shape), &shape);
+        }
     }
+    Ok(())
 }
 
-// Where a word of the state lies.
 fn show_change<D: Numeral>(
     rt: &LibcRuntime,
     at: usize,
@@ -92,26 +91,32 @@ fn copy<D: Numeral>(heap: Global, state: &[D]) -> Result<Vec<D>, Trouble> {
     Ok(words)
 }
 
-/// Runs the source on a state and prints how it ended and what it changed.
-pub fn run_source<D: Numeral>(
-    rt: &LibcRuntime,
-    start: Start,
-    state: &mut [D],
-) -> Result<(), Trouble> {
-    let heap = rt.alloc();
-    let before = copy(heap, state)?;
-    let rows = region_rows(start.source);
-    let outcome = match run(&rows, Side::Source, &start.source.shape, start.entry, state) {
-        Ok(outcome) => outcome,
-        Err(misfit) => return Err(misfit_text(heap, start, misfit)),
-    };
+fn show_outcome(rt: &LibcRuntime, labels: &[LabelRow], outcome: Outcome) -> Result<(), Trouble> {
     match outcome {
         Outcome::Reached(label) => {
-            let name = label_text(heap, &start.source.labels, label)?;
+            let name = label_text(rt.alloc(), labels, label)?;
             println!(rt, "reached {name}")?;
         }
         Outcome::Trapped => println!(rt, "trapped")?,
     }
+    Ok(())
+}
+
+/// Runs what the region holds on a state, and prints how it ended and what it changed.
+pub fn run_held<D: Numeral>(
+    rt: &LibcRuntime,
+    shelf: &Shelf,
+    rows: &[Row],
+    labels: &[LabelRow],
+    start: Start,
+    state: &mut [D],
+) -> Result<(), Trouble> {
+    let before = copy(rt.alloc(), state)?;
+    let outcome = match shelf.run(rows, labels, 0, start.side, start.entry, state) {
+        Ok(outcome) => outcome,
+        Err(refusal) => return Err(refused(rt.alloc(), "run", refusal)),
+    };
+    show_outcome(rt, labels, outcome)?;
     if start.all {
         show_all(rt, state)
     } else {
