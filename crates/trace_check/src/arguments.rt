@@ -61,7 +61,7 @@ fn kind_of(word: &str) -> Option<Kind> {
 
 impl Request {
     /// Nothing asked for yet: the wrapping domain and no pairs.
-    pub fn new(heap: Global) -> Request {
+    pub(crate) fn new(heap: Global) -> Request {
         Request {
             help: false,
             kind: Kind::Wrapping,
@@ -116,7 +116,7 @@ impl Request {
     }
 
     /// One argument more.
-    pub fn take(&mut self, number: usize, word: &str) -> Result<(), Misuse> {
+    pub(crate) fn take(&mut self, number: usize, word: &str) -> Result<(), Misuse> {
         match self.next {
             Next::Any => self.begin(number, word),
             Next::Domain => self.set_kind(number, word),
@@ -126,7 +126,7 @@ impl Request {
     }
 
     /// Whether the request is whole.
-    pub fn whole(&self) -> Result<(), Misuse> {
+    pub(crate) fn whole(&self) -> Result<(), Misuse> {
         match self.next {
             Next::Domain => Err(Misuse::NoDomain),
             Next::List => Err(Misuse::NoList),
@@ -143,7 +143,7 @@ impl Request {
 }
 
 /// What the arguments after the program's name ask for.
-pub fn read_arguments(heap: Global, words: &[String]) -> Result<Request, Misuse> {
+pub(crate) fn read_arguments(heap: Global, words: &[String]) -> Result<Request, Misuse> {
     let mut request = Request::new(heap);
     for (number, word) in words.iter().enumerate() {
         if number > 0 {

@@ -49,7 +49,7 @@ pub enum Ended {
 
 impl Desk {
     /// A desk for checks in that domain.
-    pub fn new(heap: Global, kind: Kind) -> Result<Desk, AllocError> {
+    pub(crate) fn new(heap: Global, kind: Kind) -> Result<Desk, AllocError> {
         let rows = vec![in heap; Row::blank(); SHELF_PAIRS * REGION_ROWS]?;
         let labels = vec![in heap; LabelRow::unused(); SHELF_PAIRS * REGION_LABELS]?;
         let terms = vec![in heap; TermRow::Literal(0); TERM_ROWS]?;
@@ -63,7 +63,7 @@ impl Desk {
     }
 
     /// Empties the shelf.
-    pub fn clear(&mut self) -> Result<usize, Refusal> {
+    pub(crate) fn clear(&mut self) -> Result<usize, Refusal> {
         self.shelf
             .open(self.rows.as_mut_slice(), self.labels.as_mut_slice())
     }
@@ -106,7 +106,7 @@ impl Desk {
     }
 
     /// Puts the two texts into a region and compares them.
-    pub fn check(&mut self, region: usize, source: &[u8], schedule: &[u8]) -> Ended {
+    pub(crate) fn check(&mut self, region: usize, source: &[u8], schedule: &[u8]) -> Ended {
         if let Err(refusal) = self.put_source(region, source) {
             return Ended::Refused(Call::Source, refusal);
         }

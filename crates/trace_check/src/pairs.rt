@@ -70,7 +70,7 @@ fn word(words: &[String], at: usize) -> &str {
 }
 
 /// The pairs, in the order of the command line.
-pub fn gather(
+pub(crate) fn gather(
     rt: &LibcRuntime,
     origins: &[Origin],
     words: &[String],

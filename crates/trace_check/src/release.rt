@@ -44,7 +44,7 @@ impl Totals {
     }
 
     /// Whether all pairs passed.
-    pub fn all_passed(self) -> bool {
+    pub(crate) fn all_passed(self) -> bool {
         self.failed == 0 && self.refused == 0
     }
 }
@@ -117,7 +117,7 @@ fn check_pair(
 }
 
 /// Checks the pairs in order, and prints one line for each and one for all.
-pub fn check_all(rt: &LibcRuntime, kind: Kind, pairs: &[Pair]) -> Result<Totals, Trouble> {
+pub(crate) fn check_all(rt: &LibcRuntime, kind: Kind, pairs: &[Pair]) -> Result<Totals, Trouble> {
     let mut desk = Desk::new(rt.alloc(), kind)?;
     let mut totals = Totals::new();
     for (number, pair) in pairs.iter().enumerate() {

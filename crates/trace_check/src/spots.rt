@@ -24,7 +24,7 @@ fn shown(b: u8) -> char {
 
 impl Lines {
     /// The lines of a text.
-    pub fn of(heap: Global, text: &[u8]) -> Result<Lines, AllocError> {
+    pub(crate) fn of(heap: Global, text: &[u8]) -> Result<Lines, AllocError> {
         let mut lines = Vec::new(heap);
         let mut line = String::new(heap);
         for b in text {
@@ -42,7 +42,7 @@ impl Lines {
     }
 
     /// The line of a number; lines count from 1.
-    pub fn get(&self, number: usize) -> &str {
+    pub(crate) fn get(&self, number: usize) -> &str {
         if number > 0 && number <= self.lines.len() {
             self.lines[number - 1].as_str()
         } else {
@@ -51,7 +51,7 @@ impl Lines {
     }
 
     /// How many joins the line of rows has.
-    pub fn joins(&self) -> usize {
+    pub(crate) fn joins(&self) -> usize {
         let mut joins: usize = 0;
         for line in self.lines.iter() {
             if line.as_str().starts_with('J') {
@@ -63,7 +63,7 @@ impl Lines {
 
     /// The number of the line where a stop stands: of the exits below the entry's join the one of that number,
     /// counted from 1, or the end where there are fewer.
-    pub fn stop(&self, entry: u8, stop: u8) -> usize {
+    pub(crate) fn stop(&self, entry: u8, stop: u8) -> usize {
         let mut walk = Walk {
             joins: entry,
             exits: stop,
@@ -104,7 +104,12 @@ impl Walk {
 }
 
 /// A place as it is printed: the file, the line's number and the line; the file alone where the number is 0.
-pub fn spot(heap: Global, path: &str, lines: &Lines, number: usize) -> Result<String, AllocError> {
+pub(crate) fn spot(
+    heap: Global,
+    path: &str,
+    lines: &Lines,
+    number: usize,
+) -> Result<String, AllocError> {
     if number == 0 {
         return String::from_str(heap, path);
     }

@@ -75,14 +75,14 @@ fn stop_spot(
 }
 
 /// A pair that passed.
-pub fn tell_passed(rt: &LibcRuntime, number: usize, pair: &Pair) -> Result<(), Trouble> {
+pub(crate) fn tell_passed(rt: &LibcRuntime, number: usize, pair: &Pair) -> Result<(), Trouble> {
     let spots = both(rt.alloc(), pair)?;
     println!(rt, "{number} passed\t{spots}")?;
     Ok(())
 }
 
 /// A pair that failed.
-pub fn tell_failed(
+pub(crate) fn tell_failed(
     rt: &LibcRuntime,
     number: usize,
     pair: &Pair,
@@ -135,7 +135,7 @@ fn faulty(
 }
 
 /// A pair that a call refused.
-pub fn tell_refused(
+pub(crate) fn tell_refused(
     rt: &LibcRuntime,
     number: usize,
     pair: &Pair,

@@ -27,7 +27,7 @@ pub enum Misuse {
 
 impl Request {
     /// Nothing asked for yet: the wrapping domain, entry 0, all words zero.
-    pub fn new() -> Request {
+    pub(crate) fn new() -> Request {
         Request {
             help: false,
             all: false,
@@ -42,7 +42,7 @@ impl Request {
     }
 
     /// One argument more.
-    pub fn take(mut self, number: usize, word: &str) -> Result<Request, Misuse> {
+    pub(crate) fn take(mut self, number: usize, word: &str) -> Result<Request, Misuse> {
         if self.wants_domain {
             self.trapping = match word {
                 "w" => false,
@@ -85,7 +85,7 @@ impl Request {
     }
 
     /// The request, where it is whole.
-    pub fn whole(self) -> Result<Request, Misuse> {
+    pub(crate) fn whole(self) -> Result<Request, Misuse> {
         if self.wants_domain {
             return Err(Misuse::NoDomain);
         }
@@ -100,7 +100,7 @@ impl Request {
 }
 
 /// What the arguments after the program's name ask for.
-pub fn read_arguments(words: &[String]) -> Result<Request, Misuse> {
+pub(crate) fn read_arguments(words: &[String]) -> Result<Request, Misuse> {
     let mut request = Request::new();
     for (number, word) in words.iter().enumerate() {
         if number > 0 {

@@ -13,7 +13,7 @@ use std::alloc::AllocError;
 use std::alloc::Global;
 
 /// A name's characters.
-pub fn name_text(heap: Global, name: Option<Name>) -> Result<String, AllocError> {
+pub(crate) fn name_text(heap: Global, name: Option<Name>) -> Result<String, AllocError> {
     let mut text = String::new(heap);
     if let Some(name) = name {
         for b in name.bytes() {
@@ -26,7 +26,7 @@ pub fn name_text(heap: Global, name: Option<Name>) -> Result<String, AllocError>
 }
 
 /// A label by its name.
-pub fn label_text(
+pub(crate) fn label_text(
     heap: Global,
     labels: &[LabelRow],
     label: LabelNumber,
@@ -108,7 +108,7 @@ fn exits_in(rows: &[Row]) -> usize {
 }
 
 /// Prints the labels that are declared.
-pub fn show_labels(rt: &LibcRuntime, labels: &[LabelRow]) -> Result<(), Trouble> {
+pub(crate) fn show_labels(rt: &LibcRuntime, labels: &[LabelRow]) -> Result<(), Trouble> {
     for (number, label) in labels.iter().enumerate() {
         let row = *label;
         if row.name.is_some() {
@@ -129,7 +129,7 @@ fn show_rows(rt: &LibcRuntime, labels: &[LabelRow], rows: &[Row]) -> Result<(), 
 }
 
 /// Prints a line that a region's rows hold.
-pub fn show_line(
+pub(crate) fn show_line(
     rt: &LibcRuntime,
     path: &str,
     labels: &[LabelRow],

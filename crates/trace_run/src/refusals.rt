@@ -39,7 +39,7 @@ fn layer_name(layer: Layer) -> &'static str {
 }
 
 /// A refusal, and the file or argument that it is about.
-pub fn refused(heap: Global, about: &str, refusal: Refusal) -> Trouble {
+pub(crate) fn refused(heap: Global, about: &str, refusal: Refusal) -> Trouble {
     let number = refusal.number.printed();
     let line = refusal.line;
     let field = refusal.field;

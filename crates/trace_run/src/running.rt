@@ -24,7 +24,7 @@ pub struct Start {
 }
 
 /// Prints the source or the schedule that the region holds.
-pub fn show_held(
+pub(crate) fn show_held(
     rt: &LibcRuntime,
     path: &str,
     shelf: &Shelf,
@@ -103,7 +103,7 @@ fn show_outcome(rt: &LibcRuntime, labels: &[LabelRow], outcome: Outcome) -> Resu
 }
 
 /// Runs what the region holds on a state, and prints how it ended and what it changed.
-pub fn run_held<D: Numeral>(
+pub(crate) fn run_held<D: Numeral>(
     rt: &LibcRuntime,
     shelf: &Shelf,
     rows: &[Row],

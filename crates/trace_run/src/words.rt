@@ -52,7 +52,7 @@ fn read_word<D: Numeral>(line: &str) -> Option<D> {
 }
 
 /// Reads as many words as the state has, one to a line.
-pub fn read_words<D: Numeral>(
+pub(crate) fn read_words<D: Numeral>(
     heap: Global,
     path: &str,
     text: &str,
