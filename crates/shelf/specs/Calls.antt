@@ -1,6 +1,6 @@
 -- What each call answers, and the store that it leaves.
 use mathlib.Core.Bool.{Bool, true, false, cond, _&&_}
-use mathlib.Core.List.{List, _++_}
+use mathlib.Core.List.{List, [], _++_}
 use Prim.Native.Nat.{ℕ, _+_, _*_, _/_}
 use lib.Dec.{eqb, ltb, leb}
 use lib.ListN.{length, getD, set, replicate}
@@ -101,6 +101,10 @@ opened st n = record {
   rows = replicate (length (st .rows)) blank;
   labels = replicate (length (st .labels)) unused;
 }
+
+-- a shelf that was never opened: it has no regions, and keeps nothing
+abbrev pub unopened : Store
+unopened = record { count = 0; regions = replicate 16 empty-region; rows = []; labels = [] }
 
 -- DROP: the region holds nothing, and its rows and labels are blank
 abbrev pub drop-answer : Store → ℕ → Result Kept-region Refusal

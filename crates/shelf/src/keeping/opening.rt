@@ -1,7 +1,8 @@
 // OPEN.
 ghost use mathlib.Core.Path.{_≡_};
+ghost use mathlib.Core.List.{[]};
 ghost use Rattle.shelf.specs.Store.{store};
-ghost use Rattle.shelf.specs.Calls.{open-answer, opened, opening, settled};
+ghost use Rattle.shelf.specs.Calls.{open-answer, opened, opening, settled, unopened};
 use super::super::parts::blank_labels;
 use super::super::parts::blank_rows;
 use super::super::record::EMPTY;
@@ -28,7 +29,7 @@ fn fitting(rows: usize, labels: usize) -> Result<usize, Refusal>
 impl Shelf {
     /// A shelf that was not opened: it has no regions.
     pub fn new() -> Shelf
-        ensures { λ r. ⌜ r .count ≡ 0 ⌝ }
+        ensures { λ r. ⌜ store r [] [] ≡ unopened ⌝ }
     {
         Shelf {
             count: 0,
