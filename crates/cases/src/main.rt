@@ -1,4 +1,6 @@
 // cases: checks stored pairs of texts in every domain, and compares what the calls answer with stored answers.
+#![tactic(auto)]
+
 mod answers;
 mod bench;
 mod case;

@@ -1,5 +1,7 @@
 // Domains of words: what the rows of a region compute with. The machine, the comparison and their theorems
 // are written once, over any domain that meets this trait.
+#![tactic(auto)]
+
 ghost use Rattle.std.specs.Prelude.{◌≡◌};
 ghost use Rattle.domain.specs.Meaning.{Meaning, Lawful};
 

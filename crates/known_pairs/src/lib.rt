@@ -1,4 +1,6 @@
 //! Pairs of a source and a schedule whose verdicts are known: one list, and the theorem that the calls answer just so.
+#![tactic(auto)]
+
 ghost use Rattle.std.specs.Prelude.{◌≡◌, length, take, IfSome};
 ghost use Rattle.std.specs.Option.{option_map};
 ghost use Rattle.std.specs.List.{AllByRecursion, slice_get};

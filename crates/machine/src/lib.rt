@@ -1,4 +1,6 @@
 // The machine: one interpreter of a region's rows, for every domain of words.
+#![tactic(auto)]
+
 mod actions;
 mod lines;
 

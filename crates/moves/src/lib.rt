@@ -1,5 +1,7 @@
 // The moves of a trace scheduler, and what the comparison of a schedule with its source is worth: what passes runs
 // like its source, and what the moves derive from a source passes.
+#![tactic(auto)]
+
 ghost use Rattle.moves.specs.Theorems.{Sound, Complete, Tested};
 ghost use Rattle.moves.specs.Examples.{Examples};
 

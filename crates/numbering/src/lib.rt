@@ -2,6 +2,7 @@
 //!
 //! This is hash-consing without the hash: a row that is numbered again is found, not put in again, so that two rows are equal exactly where their numbers are.
 //! The rows lie in memory that the caller lends.
+#![tactic(auto)]
 
 ghost use Rattle.std.specs.Prelude.{◌≡◌, ◌+◌, ◌<◌, length, drop, slice_set};
 ghost use Rattle.numbering.specs.Rows.{KeptDistinct, OneNumber, found, numbered, with_row};

@@ -1,5 +1,7 @@
 //! The readers of a region's texts: that of its source, and that of a schedule. Texts are bytes: lines end in LF, and one tab parts two fields.
 //! A text is read exactly as the rules say, or refused with the fault, the line and the field that decide.
+#![tactic(auto)]
+
 mod body;
 mod cursor;
 mod draft;

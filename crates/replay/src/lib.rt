@@ -3,6 +3,8 @@
 //! `replay` opens a shelf and makes a list of calls on it, one after the other. Its contract is the law over calls: what
 //! each call answers, and what the shelf, the rows and the labels hold afterwards, follow from the calls' arguments and from
 //! which of them were granted; what passed runs like its source, and whatever the scheduler's moves derive passes.
+#![tactic(auto)]
+
 mod answering;
 mod call;
 mod example;

@@ -1,4 +1,6 @@
 //! The shelf: regions in rows and labels that the caller lends, and the calls on them.
+#![tactic(auto)]
+
 mod keeping;
 mod lines_held;
 mod parts;

@@ -1,4 +1,6 @@
 // trace_check: checks schedules of regions against their sources, pair by pair, and says what it found.
+#![tactic(auto)]
+
 mod arguments;
 mod desk;
 mod pairs;

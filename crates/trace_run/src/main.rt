@@ -1,4 +1,6 @@
 // trace_run: reads the source of a region, and a schedule of it if there is one, runs what it read, and says what it did.
+#![tactic(auto)]
+
 mod arguments;
 mod listing;
 mod refusals;

@@ -2,6 +2,7 @@
 //!
 //! Both lines are walked from each entry with terms in the place of words and no side exit taken, and what they hold is compared at each stop.
 //! Terms are hash-consed in rows that the caller lends: two terms are the same exactly where their numbers are one.
+#![tactic(auto)]
 
 mod acting;
 mod at;
