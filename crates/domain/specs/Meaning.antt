@@ -1,5 +1,5 @@
 -- What a domain of words means, and when it is lawful.
-use Rattle.std.specs.Prelude.{◌≡◌, ℕ, Bool, true, false, ◌≢◌, Some, None, Option}
+use Rattle.std.specs.Prelude.{◌≡◌, ℕ, Bool, true, false, ◌≢◌, None, Option}
 use Rattle.domain.specs.declared.op.Op.{Op}
 use Rattle.domain.specs.declared.slot.Slot.{Slot}
 

@@ -1,6 +1,6 @@
 -- Values made of numbers below a bound.
-use Rattle.std.specs.Prelude.{◌≡◌, ℕ, ◌<◌, ◌≤◌, Bool, true, false, ltb, ◌≢◌, Some, None, Option, nat_lt, refl}
-use Rattle.std.proofs.Common.{sym, ap, ◌∙◌, arith, ltb-true, lt-ltb}
+use Rattle.std.specs.Prelude.{◌≡◌, ℕ, ◌<◌, Bool, true, false, ltb, ◌≢◌, Some, None, nat_lt, refl}
+use Rattle.std.proofs.Common.{sym, ap, arith, ltb-true, lt-ltb}
 use Rattle.std.proofs.Math.Bridge.{le_prop}
 use Rattle.std.proofs.lemmas.Bool.{both_ways}
 use Rattle.domain.specs.declared.slot.Slot.{Slot}

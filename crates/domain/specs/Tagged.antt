@@ -1,5 +1,5 @@
 -- K, tagged words, over any domain below: a word of that domain with a tag that says number or address.
-use Rattle.std.specs.Prelude.{ℕ, Bool, true, false, ◌&&◌, Some, None, Option}
+use Rattle.std.specs.Prelude.{Bool, true, false, ◌&&◌, Some, None, Option}
 use Rattle.domain.specs.declared.op.Op.{Op}
 use Rattle.domain.specs.declared.op.Op.TheVariants.{Add, Sub, Mul, Div, Lt, Eq, And, Or}
 use Rattle.domain.specs.declared.slot.Slot.{Slot}

@@ -1,5 +1,5 @@
 -- Tags keep the laws of the domain below.
-use Rattle.std.specs.Prelude.{◌≡◌, Bool, true, false, ◌&&◌, refl}
+use Rattle.std.specs.Prelude.{◌≡◌, Bool, true, ◌&&◌}
 use Rattle.std.proofs.Common.{ap₂, arith}
 use Rattle.domain.specs.declared.op.Op.{Op}
 use Rattle.domain.specs.declared.tagged.Tag.{Tag}

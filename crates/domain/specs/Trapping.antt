@@ -1,5 +1,5 @@
 -- T, trapping words: numbers of 32 bits with a sign. An exact result that does not fit traps.
-use Rattle.std.specs.Prelude.{ℕ, Bool, true, false, cond, not, ◌&&◌, ℤ, pos, negsuc, ◌+ℤ◌, ◌-ℤ◌, ◌*ℤ◌, Some, None, Option, bit_and, bit_or, int_div, int_le, int_lt}
+use Rattle.std.specs.Prelude.{Bool, true, false, cond, not, ◌&&◌, ℤ, pos, negsuc, ◌+ℤ◌, ◌-ℤ◌, ◌*ℤ◌, Some, None, Option, bit_and, bit_or, int_div, int_le, int_lt}
 use Rattle.std.specs.Int.{w32}
 use Rattle.std.proofs.Common.{to_z, of_z}
 use Rattle.domain.specs.declared.op.Op.{Op}

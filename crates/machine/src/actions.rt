@@ -7,7 +7,7 @@ use region::{Action, Bank, Register};
 
 pub(crate) fn read<D: Domain>(state: &[D], at: Register) -> D
     requires { length state.now ≡ 80 }
-    ensures { result ≡ word meaning state.now at.index }
+    ensures { result ≡ word D.meaning state.now at.index }
 {
     state[at.get()]
 }
@@ -22,8 +22,8 @@ fn place(bank: Bank, slot: Slot) -> usize
 // One action. None is a trap, and then the state is as it was.
 pub(crate) fn step<D: Domain>(action: Action, state: &mut [D]) -> Option<()>
     requires { length state.old ≡ 80 }
-    ensures traps { is_some result ≡ is_some (stepped meaning action state.old) }
-    ensures state { state.new ≡ after_step (stepped meaning action state.old) state.old }
+    ensures traps { is_some result ≡ is_some (stepped D.meaning action state.old) }
+    ensures state { state.new ≡ after_step (stepped D.meaning action state.old) state.old }
 {
     match action {
         Action::Operate {

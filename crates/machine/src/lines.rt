@@ -14,7 +14,7 @@ use region::{LabelNumber, Misfit, Outcome, Part, Position, Row, STATE_WORDS, Sha
 // The actions among the rows of a piece; false is a trap.
 fn perform<D: Domain>(rows: &[Row], state: &mut [D]) -> bool
     requires { length state.old ≡ 80 }
-    ensures { (rest : List D → Ended D) → performed meaning (actions rows.now) state.old rest ≡ (if result then rest state.new else trapped meaning state.new) }
+    ensures { (rest : List D → Ended D) → performed D.meaning (actions rows.now) state.old rest ≡ (if result then rest state.new else trapped D.meaning state.new) }
 {
     for row in rows {
         if let Row::Act(action) = *row {
@@ -29,7 +29,7 @@ fn perform<D: Domain>(rows: &[Row], state: &mut [D]) -> bool
 // The piece of a taken exit, and then its label.
 fn leave<D: Domain>(rows: &[Row], label: LabelNumber, state: &mut [D]) -> Outcome
     requires { length state.old ≡ 80 }
-    ensures { record { outcome = result; state = state.new } ≡ performed meaning (actions rows.now) state.old (reached meaning label) }
+    ensures { record { outcome = result; state = state.new } ≡ performed D.meaning (actions rows.now) state.old (reached D.meaning label) }
 {
     if perform(rows, state) {
         Outcome::Reached(label)
@@ -48,7 +48,7 @@ fn run_rows<D: Domain>(
 ) -> Outcome
     requires state { length state.old ≡ 80 }
     requires few { above + length rows.now ≤ 96 }
-    ensures { record { outcome = result; state = state.new } ≡ ran meaning (rows_of part.entry) (kept shape.now) above rows.now state.old }
+    ensures { record { outcome = result; state = state.new } ≡ ran D.meaning (rows_of part.entry) (kept shape.now) above rows.now state.old }
 {
     let mut exits = above;
     for row in rows {
@@ -80,7 +80,7 @@ fn run_from<D: Domain>(
 ) -> Outcome
     requires state { length state.old ≡ 80 }
     requires entry { entry ≤ shape.now.joins }
-    ensures { record { outcome = result; state = state.new } ≡ run_of meaning (assembled side (rows_of part.entry) (kept shape.now)) entry state.old }
+    ensures { record { outcome = result; state = state.new } ≡ run_of D.meaning (assembled side (rows_of part.entry) (kept shape.now)) entry state.old }
 {
     let main = part.main(side, shape);
     if entry == 0 {
@@ -101,8 +101,8 @@ pub fn run<D: Domain>(
     entry: usize,
     state: &mut [D],
 ) -> Result<Outcome, Misfit>
-    ensures answer { result ≡ answered (run_in meaning side rows.now (kept shape.now) entry state.old) }
-    ensures after { state.new ≡ state_after state.old (run_in meaning side rows.now (kept shape.now) entry state.old) }
+    ensures answer { result ≡ answered (run_in D.meaning side rows.now (kept shape.now) entry state.old) }
+    ensures after { state.new ≡ state_after state.old (run_in D.meaning side rows.now (kept shape.now) entry state.old) }
 {
     let Some(part) = Part::new(rows) else {
         return Err(Misfit::Rows);

@@ -36,7 +36,7 @@ impl<'a, R: Kind + Copy> Table<'a, R> {
 
     /// The number of the row, or `None` where it has none.
     pub fn find(&self, row: &R) -> Option<usize>
-        ensures { result ≡ found equals (used self.now) row.now }
+        ensures { result ≡ found R.equals (used self.now) row.now }
     {
         let rows = &*self.rows;
         for i in 0..self.len {
@@ -49,13 +49,13 @@ impl<'a, R: Kind + Copy> Table<'a, R> {
 
     /// The number of the row, which gets the next one where it had none; `None` where there is no room for it, and then nothing is altered.
     pub fn number(&mut self, row: R) -> Option<usize>
-        ensures answer { result ≡ numbered equals (capacity self.old) (used self.old) row }
-        ensures used { used self.new ≡ with_row equals (capacity self.old) (used self.old) row }
+        ensures answer { result ≡ numbered R.equals (capacity self.old) (used self.old) row }
+        ensures used { used self.new ≡ with_row R.equals (capacity self.old) (used self.old) row }
         ensures beyond { drop self.new.len self.new.rows.now ≡ drop self.new.len self.old.rows.now }
         ensures room { capacity self.new ≡ capacity self.old }
         ensures named { self.new.rows.ghost_name ≡ self.old.rows.ghost_name }
-        ensures distinct { KeptDistinct equals (used self.old) (used self.new) }
-        ensures one { OneNumber equals (used self.old) (used self.new) row result }
+        ensures distinct { KeptDistinct R.equals (used self.old) (used self.new) }
+        ensures one { OneNumber R.equals (used self.old) (used self.new) row result }
     {
         if let Some(i) = self.find(&row) {
             return Some(i);

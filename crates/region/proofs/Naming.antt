@@ -1,8 +1,7 @@
 -- Names, character by character.
-use Rattle.std.proofs.Common.{◌≡◌, ℕ, suc, ◌+◌, ◌-◌, ◌<◌, ◌≤◌, true, false, List, [], ◌∷◌, ◌++◌, length, get_or, take, drop, set, replicate, Some, None, sym, refl, ap, ◌∙◌, arith}
+use Rattle.std.proofs.Common.{◌≡◌, ℕ, suc, ◌+◌, ◌-◌, ◌<◌, ◌≤◌, true, false, List, ◌++◌, length, get_or, take, drop, set, replicate, Some, None, arith}
 use Rattle.std.proofs.lemmas.List.{drop_more, take_more, take_all, set_at, append_assoc, length-take-le}
 use Rattle.std.proofs.lemmas.Bool.{le-leb}
-use Rattle.region.specs.declared.label.Name.{Name}
 use Rattle.region.specs.Labels.{name_byte, name_bytes, name_at}
 
 module _ (xs : List ℕ) (i : ℕ) (h : i < length xs) where

@@ -1,5 +1,5 @@
 -- Beyond the eighth exit and the fourth join a piece is empty.
-use Rattle.std.proofs.Common.{◌≡◌, ℕ, ◌≤◌, List, [], length, get_or, take, drop, sym, ap, arith}
+use Rattle.std.proofs.Common.{◌≡◌, ℕ, ◌≤◌, List, [], get_or, take, drop, sym, ap, arith}
 use Rattle.std.proofs.lemmas.List.{get_or_past}
 use Rattle.region.specs.declared.row.Row.{Row}
 use Rattle.region.specs.declared.shape.Shape.{Shape}

@@ -1,5 +1,5 @@
 -- The way down to a join, row by row.
-use Rattle.std.proofs.Common.{◌≡◌, ℕ, zero, suc, ◌+◌, ◌-◌, ◌<◌, ◌≤◌, List, [], ◌∷◌, length, get_or, drop, sym, refl, ap, ◌∙◌, ap₂, add-one, arith}
+use Rattle.std.proofs.Common.{◌≡◌, ℕ, zero, suc, ◌+◌, ◌-◌, ◌<◌, ◌≤◌, List, ◌∷◌, length, get_or, drop, sym, ap, ◌∙◌, ap₂, add-one, arith}
 use Rattle.std.proofs.lemmas.List.{drop_more, drop_all}
 use Rattle.region.specs.declared.row.Action.{Action}
 use Rattle.region.specs.declared.numbers.LabelNumber.{LabelNumber}
@@ -9,7 +9,7 @@ use Rattle.region.specs.declared.row.Row.TheVariants.{Act, Exit, Join}
 use Rattle.region.specs.Kept.{Kept}
 use Rattle.region.specs.Rows.{actions}
 use Rattle.region.specs.Layout.{join_rows}
-use Rattle.region.specs.Lines.{Start, entered, missing, places_of}
+use Rattle.region.specs.Lines.{entered, missing, places_of}
 use Rattle.region.specs.Entries.{Enters}
 
 -- the rows that are left begin with the row here

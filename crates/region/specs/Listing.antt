@@ -1,5 +1,5 @@
 -- What main rows and pieces hold, and what is kept of a line.
-use Rattle.std.specs.Prelude.{ℕ, List, map, length, take, replicate}
+use Rattle.std.specs.Prelude.{List, map, length, take, replicate}
 use Rattle.region.specs.declared.main_rows.MainRows.{MainRows}
 use Rattle.region.specs.declared.piece_rows.PieceRows.{PieceRows}
 use Rattle.region.specs.declared.numbers.LabelNumber.{LabelNumber}

@@ -1,7 +1,6 @@
 -- Rows, counted and read as actions.
 use Rattle.std.specs.Prelude.{ℕ, ◌+◌, ◌-◌, Bool, ◌&&◌, List, [], ◌∷◌, ◌++◌, length, replicate, nat_le}
 use Rattle.std.proofs.Common.{lit<}
-use Rattle.region.specs.declared.numbers.Register.{Register}
 use Rattle.region.specs.declared.row.Action.{Action}
 use Rattle.region.specs.declared.row.Action.TheVariants.{Literal}
 use Rattle.region.specs.declared.row.Row.{Row}

@@ -1,6 +1,7 @@
 -- Laws of declared labels.
 use Rattle.std.proofs.Common.{◌≡◌, ℕ, ◌+◌, ◌-◌, Bool, true, false, cond, ltb, List, [], ◌∷◌, ◌++◌, length, drop, replicate, is_some, Some, None, Ok, Err, Option, Result, sym, refl, ap, ◌∙◌, arith}
 use Rattle.std.proofs.lemmas.List.{length-map, length-take-le, length_push, map_push, take-append-drop, drop-drop, drop_at, drop-replicate}
+use Rattle.numbering.specs.declared.kind.Kind.{Ghosts}
 use Rattle.numbering.specs.declared.table.Table.{Table}
 use Rattle.numbering.specs.Rows.{found, found_from, numbered, with_row, or_next, or_pushed}
 use Rattle.numbering.specs.Used.{used, capacity}
@@ -56,7 +57,7 @@ module _ (l : ℕ) (fs : List (List ℕ)) (xs : List LabelRow) where
   row_is_new : (x : LabelRow) → Ok x ≡ label_row l fs xs → found same_label xs x ≡ None
   row_is_new x e = new_row x (new_name_in l fs xs 1) (mask_in l fs 2) refl e
 
-used_length : (t : Table Declared) → length (used t) ≡ t.len
+used_length : {kind : Ghosts Declared} (t : Table Declared kind) → length (used t) ≡ t.len
 used_length t = length-take-le t.len t.rows.now t.inside
 
 -- what is left behind n used rows, of which there were k before
@@ -67,7 +68,7 @@ vacant_behind xs j =
     ∙ drop-replicate j (9 - length xs) vacant
 
 -- The label row x, which line l declares, is numbered: from the table s to the table t.
-module _ (s t : Table Declared) (x : LabelRow) (l : ℕ) (fs : List (List ℕ)) (nine : Nine s) (said : Ok x ≡ label_row l fs (labels_of s)) (used_is : used t ≡ with_row same_declared (capacity s) (used s) (declared x)) (beyond : drop t.len t.rows.now ≡ drop t.len s.rows.now) (room : capacity t ≡ capacity s) where
+module _ {kind : Ghosts Declared} (s t : Table Declared kind) (x : LabelRow) (l : ℕ) (fs : List (List ℕ)) (nine : Nine s) (said : Ok x ≡ label_row l fs (labels_of s)) (used_is : used t ≡ with_row same_declared (capacity s) (used s) (declared x)) (beyond : drop t.len t.rows.now ≡ drop t.len s.rows.now) (room : capacity t ≡ capacity s) where
   none : found same_declared (used s) (declared x) ≡ None
   none = found_rows (used s) (declared x) ∙ row_is_new l fs (labels_of s) x said
 

@@ -1,5 +1,6 @@
 -- What a reader has read: labels lie in a table, and the rest beside it. No rule of the text stands here.
 use Rattle.std.specs.Prelude.{◌≡◌, List, Ok, Err, Result}
+use Rattle.numbering.specs.declared.kind.Kind.{Ghosts}
 use Rattle.numbering.specs.declared.table.Table.{Table}
 use Rattle.numbering.specs.Used.{used, capacity}
 use Rattle.region.specs.declared.label.LabelRow.{LabelRow}
@@ -17,14 +18,14 @@ use Rattle.region_text.specs.Schedules.{Scheduling}
 use Rattle.region_text.specs.Drafts.{Draft}
 
 -- a table of nine labels, in which all behind the declared ones is vacant
-pub record Nine (t : Table Declared) : Type 0 where
+pub record Nine {kind : Ghosts Declared} (t : Table Declared kind) : Type 0 where
   pub room : capacity t ≡ 9
   pub filled : t.rows.now ≡ laid 9 vacant (used t)
 
-abbrev pub labels_of : Table Declared → List LabelRow
+abbrev pub labels_of : {kind : Ghosts Declared} → Table Declared kind → List LabelRow
 labels_of t = rows_of (used t)
 
-abbrev pub reading : Table Declared → Body → Reading
+abbrev pub reading : {kind : Ghosts Declared} → Table Declared kind → Body → Reading
 reading t b = record { labels = labels_of t; rows = listed b.rows; end = b.end }
 
 abbrev pub scheduling : ScheduleBody → Scheduling

@@ -9,7 +9,6 @@ use Rattle.region.specs.declared.label.Name.{Name}
 use Rattle.region.specs.declared.label.LabelRow.{LabelRow}
 use Rattle.region.specs.Numbers.{register_at, bank_at, label_at}
 use Rattle.region.specs.Labels.{name_at}
-use Rattle.region_text.specs.declared.letter.Letter.TheVariants.{Operate, Literal, Load, Store, Exit}
 use Rattle.region_text.specs.declared.fault.Fault.TheVariants.{Malformed, Label}
 use Rattle.region_text.specs.declared.fault.Spot.{Spot}
 use Rattle.region_text.specs.declared.fault.FieldFault.{FieldFault}

@@ -43,7 +43,7 @@ fn read_decimal(field: &[u8]) -> Option<u32>
 
 /// What a field's number stands for.
 pub(crate) fn read_ranged<R: Ranged>(field: &[u8], spot: Spot) -> Result<R, FieldFault>
-    ensures { result ≡ ranged make field.now spot }
+    ensures { result ≡ ranged R.make field.now spot }
 {
     let Some(n) = read_decimal(field) else {
         return Err(Fault::Malformed.at(spot));

@@ -82,7 +82,7 @@ impl<'a> Line<'a> {
 
     /// What the number in the field at an index stands for.
     pub(crate) fn number_at<R: Ranged>(self, index: u8) -> Result<R, FieldFault>
-        ensures { result ≡ number_in self.entry.number (parts self.entry.bytes.now) index make }
+        ensures { result ≡ number_in self.entry.number (parts self.entry.bytes.now) index R.make }
     {
         read_ranged(nth_field(self.bytes, index as usize), self.spot(index))
     }

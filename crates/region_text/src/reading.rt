@@ -6,20 +6,20 @@ ghost use Rattle.region_text.specs.declared.label.Declared.{Declared as Declared
 ghost use Rattle.region_text.specs.Texts.{fields as parts, text_line};
 ghost use Rattle.region_text.specs.Records.{label_in, label_row};
 ghost use Rattle.region_text.specs.Sources.{in_place, declare as declaring, keep as keeping, finish as finishing, take_line};
-ghost use Rattle.region_text.specs.Readers.{Nine, labels_of, reading as read_by_lem, after};
+ghost use Rattle.region_text.specs.Readers.{Nine, labels_of, reading as read_by, after};
 
 use super::body::Body;
 use super::cursor::Line;
 use super::fault::{Fault, FieldFault, LineFault};
 use super::label::Declared;
 use super::letter::Letter;
-use numbering::Table;
+use numbering::{Kind, Table};
 use region::Row;
 
 /// One more label, unless it is the tenth.
 fn declare(labels: &mut Table<'_, Declared>, line: Line) -> Result<(), LineFault>
     requires { Nine labels.old }
-    ensures taken { (b : BodyOf) → after result (read_by_lem labels.new b) ≡ declaring (read_by_lem labels.old b) line.entry.number (label_row line.entry.number (parts line.entry.bytes.now) (labels_of labels.old)) }
+    ensures taken { (b : BodyOf) → after result (read_by labels.new b) ≡ declaring (read_by labels.old b) line.entry.number (label_row line.entry.number (parts line.entry.bytes.now) (labels_of labels.old)) }
     ensures nine { Nine labels.new }
     ensures named { labels.new.rows.ghost_name ≡ labels.old.rows.ghost_name }
 {
@@ -33,7 +33,7 @@ fn declare(labels: &mut Table<'_, Declared>, line: Line) -> Result<(), LineFault
 impl Body {
     /// Whether a record has its place here.
     fn has_place(&self, labels: &Table<'_, Declared>, letter: Letter) -> bool
-        ensures { result ≡ in_place letter (read_by_lem labels.now self.now) }
+        ensures { result ≡ in_place letter (read_by labels.now self.now) }
     {
         let ended = self.end.is_some();
         match letter {
@@ -45,7 +45,7 @@ impl Body {
 
     /// One more row, unless a size is passed.
     fn keep(&mut self, row: Result<Row, FieldFault>, number: usize) -> Result<(), LineFault>
-        ensures { (t : TableOf DeclaredLabel) → after result (read_by_lem t self.new) ≡ keeping (read_by_lem t self.old) number row }
+        ensures { (t : TableOf DeclaredLabel ⟦<Declared as Kind>⟧) → after result (read_by t self.new) ≡ keeping (read_by t self.old) number row }
     {
         if self.rows.push(row?) {
             Ok(())
@@ -56,7 +56,7 @@ impl Body {
 
     /// The end.
     fn finish(&mut self, labels: &Table<'_, Declared>, line: Line) -> Result<(), LineFault>
-        ensures { after result (read_by_lem labels.now self.new) ≡ finishing (read_by_lem labels.now self.old) (label_in line.entry.number (parts line.entry.bytes.now) (labels_of labels.now) 1) }
+        ensures { after result (read_by labels.now self.new) ≡ finishing (read_by labels.now self.old) (label_in line.entry.number (parts line.entry.bytes.now) (labels_of labels.now) 1) }
     {
         self.end = Some(line.label_at(1, labels)?);
         Ok(())
@@ -69,7 +69,7 @@ impl Body {
         line: Line,
     ) -> Result<(), LineFault>
         requires { Nine labels.old }
-        ensures taken { after result (read_by_lem labels.new self.new) ≡ take_line (read_by_lem labels.old self.old) line.entry.number (text_line line.entry.bytes.now line.entry.ended) }
+        ensures taken { after result (read_by labels.new self.new) ≡ take_line (read_by labels.old self.old) line.entry.number (text_line line.entry.bytes.now line.entry.ended) }
         ensures nine { Nine labels.new }
         ensures named { labels.new.rows.ghost_name ≡ labels.old.rows.ghost_name }
     {

@@ -3,7 +3,7 @@ ghost use Rattle.std.specs.Prelude.{◌≡◌};
 ghost use Rattle.region_text.specs.Texts.{fields as parts, text_line};
 ghost use Rattle.region_text.specs.Records.{piece_in};
 ghost use Rattle.region_text.specs.Schedules.{nothing_scheduled, before_joins as no_join_yet, in_place, keep as keeping, finish as finishing, rises as rising, head as heading, take_line};
-ghost use Rattle.region_text.specs.Readers.{scheduling as read_by_lem, after};
+ghost use Rattle.region_text.specs.Readers.{scheduling as read_by, after};
 
 use super::body::ScheduleBody;
 use super::cursor::Line;
@@ -27,7 +27,7 @@ impl<'a> Line<'a> {
 impl ScheduleBody {
     /// Nothing yet.
     pub(crate) fn new() -> ScheduleBody
-        ensures { read_by_lem result ≡ nothing_scheduled }
+        ensures { read_by result ≡ nothing_scheduled }
     {
         ScheduleBody {
             rows: MainRows::new(),
@@ -49,7 +49,7 @@ impl ScheduleBody {
 
     /// Whether a record has its place here.
     fn has_place(&self, letter: Letter) -> bool
-        ensures { result ≡ in_place letter (read_by_lem self.now) }
+        ensures { result ≡ in_place letter (read_by self.now) }
     {
         let ended = self.end.is_some();
         match letter {
@@ -65,7 +65,7 @@ impl ScheduleBody {
 
     /// One more row, in the main line or in the piece that was headed last, unless a size is passed.
     fn keep(&mut self, row: Result<Row, FieldFault>, number: usize) -> Result<(), LineFault>
-        ensures { after result (read_by_lem self.new) ≡ keeping (read_by_lem self.old) number row }
+        ensures { after result (read_by self.new) ≡ keeping (read_by self.old) number row }
     {
         let row = row?;
         let taken = match self.at {
@@ -81,7 +81,7 @@ impl ScheduleBody {
 
     /// The end.
     fn finish(&mut self, end: Result<LabelNumber, FieldFault>) -> Result<(), LineFault>
-        ensures { after result (read_by_lem self.new) ≡ finishing (read_by_lem self.old) end }
+        ensures { after result (read_by self.new) ≡ finishing (read_by self.old) end }
     {
         self.end = Some(end?);
         Ok(())
@@ -99,7 +99,7 @@ impl ScheduleBody {
 
     /// The head of a piece, unless its number does not rise.
     fn head(&mut self, piece: Result<usize, FieldFault>, number: usize) -> Result<(), LineFault>
-        ensures { after result (read_by_lem self.new) ≡ heading (read_by_lem self.old) number piece }
+        ensures { after result (read_by self.new) ≡ heading (read_by self.old) number piece }
     {
         let piece = piece?;
         if !self.rises(piece) {
@@ -111,7 +111,7 @@ impl ScheduleBody {
 
     /// One line more: its form, its place, its fields from the left, and the sizes.
     pub(crate) fn take_line(&mut self, labels: &[LabelRow], line: Line) -> Result<(), LineFault>
-        ensures { after result (read_by_lem self.new) ≡ take_line labels.now (read_by_lem self.old) line.entry.number (text_line line.entry.bytes.now line.entry.ended) }
+        ensures { after result (read_by self.new) ≡ take_line labels.now (read_by self.old) line.entry.number (text_line line.entry.bytes.now line.entry.ended) }
     {
         let number = line.number;
         let Some(letter) = line.form() else {

@@ -1,5 +1,5 @@
 -- What each call answers, and the store that it leaves.
-use Rattle.std.specs.Prelude.{ℕ, ◌+◌, ◌*◌, ◌/◌, Bool, true, false, cond, ◌&&◌, List, [], ◌++◌, length, set, replicate, Some, None, Ok, Err, Option, Result, ◌==◌, nat_le, nat_lt, slice_index_or, slice_set}
+use Rattle.std.specs.Prelude.{ℕ, ◌+◌, ◌*◌, ◌/◌, cond, ◌&&◌, List, [], ◌++◌, length, replicate, Some, None, Ok, Err, Option, Result, ◌==◌, nat_le, nat_lt, slice_index_or, slice_set}
 use Rattle.domain.specs.Meaning.{Meaning}
 use Rattle.region.specs.declared.outcome.Misfit.{Misfit}
 use Rattle.region.specs.declared.outcome.Outcome.{Outcome}

@@ -1,5 +1,5 @@
 -- The shelf, the rows and the labels together: what calls read and leave.
-use Rattle.std.specs.Prelude.{ℕ, ◌+◌, ◌*◌, List, ◌++◌, map, length, take, drop, Some, None, Option}
+use Rattle.std.specs.Prelude.{ℕ, ◌+◌, ◌*◌, List, ◌++◌, map, length, take, drop, None, Option}
 use Rattle.std.specs.Option.{option_map}
 use Rattle.region.specs.declared.label.LabelRow.{LabelRow}
 use Rattle.region.specs.declared.row.Row.{Row}

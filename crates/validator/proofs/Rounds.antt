@@ -2,6 +2,7 @@
 use Rattle.std.proofs.Common.{◌≡◌, ℕ, suc, ◌+◌, ◌<◌, ◌≤◌, not, List, length, Some, None, Ok, Option, sym, refl, ap, ◌∙◌, ap₂, add-one, arith, length-take}
 use Rattle.std.proofs.lemmas.Bool.{eq-eqb, ne_eqb, le-leb}
 use Rattle.domain.specs.Meaning.{Meaning}
+use Rattle.numbering.specs.declared.kind.Kind.{Ghosts}
 use Rattle.numbering.specs.declared.table.Table.{Table}
 use Rattle.numbering.specs.Used.{used, capacity}
 use Rattle.region.specs.declared.label.LabelRow.{LabelRow}
@@ -19,7 +20,7 @@ use Rattle.validator.specs.declared.verdict.Verdict.{Verdict}
 use Rattle.validator.specs.declared.walk.Walk.{Walk}
 use Rattle.validator.specs.declared.walk.Reached.{Reached}
 use Rattle.validator.specs.Terms.{Term}
-use Rattle.validator.specs.Walks.{basis, Symbols, Stop, at_entry, walk}
+use Rattle.validator.specs.Walks.{basis, Symbols, Stop, at_entry}
 use Rattle.validator.specs.Comparison.{◌or_else◌, found, first_below, stops_differ, mismatch, verdict}
 use Rattle.validator.specs.Compared.{compared}
 use Rattle.validator.specs.Live.{live_in}
@@ -37,7 +38,7 @@ pub main_few : (l : LineRows) → length (main_of l) ≤ 96
 main_few l = simp length-take (omega (arith, l.shape.few_rows))
 
 -- a table holds no more than it has room for
-pub used_fits : (t : Table TermRow) → capacity t ≡ 512 → length (used t) ≤ 512
+pub used_fits : {kind : Ghosts TermRow} (t : Table TermRow kind) → capacity t ≡ 512 → length (used t) ≤ 512
 used_fits t e = omega (arith, used_length t, t.inside)
 
 -- where conditions do not differ, both walks go on or both are at an end

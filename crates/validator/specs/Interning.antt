@@ -6,6 +6,7 @@ use Rattle.std.proofs.lemmas.Bool.Decides.{same_from_decides, Decides-eqb}
 use Rattle.std.proofs.lemmas.Slice.Eq.{bytes_eq-Decides}
 use Rattle.std.proofs.lemmas.List.{length_push, length-take-le}
 use Rattle.numbering.specs.Rows.{found, numbered, with_row, Equivalence}
+use Rattle.numbering.specs.declared.kind.Kind.{Ghosts}
 use Rattle.numbering.specs.declared.table.Table.{Table}
 use Rattle.numbering.specs.Used.{used, capacity}
 use Rattle.numbering.proofs.Found.{none_is_some, found_is, distinct_none, distinct_push}
@@ -30,14 +31,14 @@ equivalence = record {
 }
 
 -- a table has as many rows in use as it counts
-pub used_length : (t : Table TermRow) → length (used t) ≡ t.len
+pub used_length : {kind : Ghosts TermRow} (t : Table TermRow kind) → length (used t) ≡ t.len
 used_length t = length-take-le t.len t.rows.now t.inside
 
 -- numbering puts one row in at most, and answers a number of a row in the table
-pub one_more : (t u : Table TermRow) (r : TermRow) → used u ≡ with_row row_equals (capacity t) (used t) r → u.len ≤ t.len + 1
+pub one_more : {kind : Ghosts TermRow} (t u : Table TermRow kind) (r : TermRow) → used u ≡ with_row row_equals (capacity t) (used t) r → u.len ≤ t.len + 1
 one_more t u r e = omega (arith, used_length t, used_length u, ap length e, length_grows row_equals (capacity t) (used t) r)
 
-pub number_inside : (t : Table TermRow) (r : TermRow) (o : Option ℕ) (n : ℕ) → o ≡ numbered row_equals (capacity t) (used t) r → o ≡ Some n → n < capacity t
+pub number_inside : {kind : Ghosts TermRow} (t : Table TermRow kind) (r : TermRow) (o : Option ℕ) (n : ℕ) → o ≡ numbered row_equals (capacity t) (used t) r → o ≡ Some n → n < capacity t
 number_inside t r o n p q =
     by_ways row_equals (capacity t) (used t) r (λ a after. a ≡ Some n → n < capacity t)
     (λ i f g. let i_is : i ≡ n = cc in omega (arith, (found_is row_equals r (used t) i r f).0, used_length t, t.inside))

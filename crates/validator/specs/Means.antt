@@ -1,5 +1,5 @@
 -- What the numbers of a walk stand for.
-use Rattle.std.specs.Prelude.{◌≡◌, ℕ, ◌<◌, Bool, true, false, cond, List, [], ◌∷◌, length, set, replicate, Some, None, Option, slice_index, slice_set}
+use Rattle.std.specs.Prelude.{◌≡◌, ℕ, ◌<◌, Bool, true, false, cond, List, [], ◌∷◌, length, replicate, Some, None, Option, slice_index, slice_set}
 use Rattle.domain.specs.declared.op.Op.{Op}
 use Rattle.domain.specs.Meaning.{Meaning}
 use Rattle.region.specs.declared.numbers.LabelNumber.{LabelNumber}

@@ -14,7 +14,7 @@ use region::{Action, Row};
 
 // The row of the term that an action makes.
 fn term_row<D: Domain>(walk: &Walk, action: Action) -> TermRow
-    ensures { result ≡ action_row meaning.commutes walk.now action }
+    ensures { result ≡ action_row D.meaning.commutes walk.now action }
 {
     match action {
         Action::Operate {
@@ -51,7 +51,7 @@ fn term_row<D: Domain>(walk: &Walk, action: Action) -> TermRow
 
 // Whether an action may trap.
 fn may_trap<D: Domain>(action: Action) -> bool
-    ensures { (live : Liveness) → result ≡ may_trap_at (basis meaning live) action }
+    ensures { (live : Liveness) → result ≡ may_trap_at (basis D.meaning live) action }
 {
     match action {
         Action::Operate {
@@ -77,7 +77,7 @@ fn may_trap<D: Domain>(action: Action) -> bool
 // What an action does to a walk, where its term has the number n.
 fn put<D: Domain>(walk: &mut Walk, action: Action, n: u16)
     requires { n < 512 }
-    ensures { (live : Liveness) → walk.new ≡ put_in (basis meaning live) action n walk.old }
+    ensures { (live : Liveness) → walk.new ≡ put_in (basis D.meaning live) action n walk.old }
 {
     match action {
         Action::Operate {
@@ -109,7 +109,7 @@ pub(crate) fn act<D: Domain>(table: &mut Table<TermRow>, walk: &mut Walk, action
     requires room { table.old.len < 512 }
     ensures size { capacity table.new ≡ 512 }
     ensures few { table.new.len ≤ table.old.len + 1 }
-    ensures acts { Does meaning (used table.old) walk.old (used table.new) walk.new (λ β. follow β action) }
+    ensures acts { Does D.meaning (used table.old) walk.old (used table.new) walk.new (λ β. follow β action) }
 {
     let n = intern(table, term_row::<D>(walk, action));
     put::<D>(walk, action, n);
@@ -121,7 +121,7 @@ pub(crate) fn acts<D: Domain>(table: &mut Table<TermRow>, walk: &mut Walk, rows:
     requires room { table.old.len + length rows.now ≤ 512 }
     ensures size { capacity table.new ≡ 512 }
     ensures few { table.new.len ≤ table.old.len + length rows.now }
-    ensures acts { Does meaning (used table.old) walk.old (used table.new) walk.new (λ β. follow_all β (actions rows.now)) }
+    ensures acts { Does D.meaning (used table.old) walk.old (used table.new) walk.new (λ β. follow_all β (actions rows.now)) }
 {
     for row in rows {
         if let Row::Act(action) = *row {

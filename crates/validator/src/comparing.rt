@@ -39,7 +39,7 @@ fn compare_walks<D: Domain>(
     requires room { table.old.len + left source from_source + left schedule from_schedule ≤ 512 }
     requires source { InLine source from_source }
     requires schedule { InLine schedule from_schedule }
-    ensures { DiffersFirst meaning labels.now number (used table.old) source.entry from_source schedule.entry from_schedule result }
+    ensures { DiffersFirst D.meaning labels.now number (used table.old) source.entry from_source schedule.entry from_schedule result }
 {
     let mut at_source = from_source;
     let mut at_schedule = from_schedule;
@@ -69,7 +69,7 @@ fn compare_entry<D: Domain>(
     requires size { length terms.old ≡ 512 }
     requires source_entry { number ≤ source.shape.joins }
     requires schedule_entry { number ≤ schedule.shape.joins }
-    ensures { result ≡ entry_differs meaning labels.now (line_of source.entry) (line_of schedule.entry) number }
+    ensures { result ≡ entry_differs D.meaning labels.now (line_of source.entry) (line_of schedule.entry) number }
 {
     let mut table = Table::new(terms);
     let start = begin(&mut table);
@@ -87,7 +87,7 @@ fn first_mismatch<D: Domain>(
 ) -> Option<Mismatch>
     requires labels { length labels.now ≡ 9 }
     requires size { length terms.old ≡ 512 }
-    ensures { result ≡ mismatch_of (basis meaning (live_in labels.now)) (line_of source.entry) (line_of schedule.entry) }
+    ensures { result ≡ mismatch_of (basis D.meaning (live_in labels.now)) (line_of source.entry) (line_of schedule.entry) }
 {
     if source.shape.joins() != schedule.shape.joins() {
         return Some(Mismatch {
@@ -124,7 +124,7 @@ pub fn compare<D: Domain>(
     schedule: &Shape,
     terms: &mut [TermRow],
 ) -> Result<Verdict, Unfit>
-    ensures answer { result ≡ compared meaning rows.now labels.now (kept source.now) (kept schedule.now) (length terms.old) }
+    ensures answer { result ≡ compared D.meaning rows.now labels.now (kept source.now) (kept schedule.now) (length terms.old) }
     ensures room { length terms.new ≡ length terms.old }
 {
     let Some(part) = Part::new(rows) else {

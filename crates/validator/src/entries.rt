@@ -79,7 +79,7 @@ pub(crate) fn enter<D: Domain>(
     ensures size { capacity table.new ≡ 512 }
     ensures few { table.new.len ≤ table.old.len + 16 }
     ensures inside { InLine line.entry result }
-    ensures onward { ComesIn meaning line.entry entry (used table.old) start.now (used table.new) result }
+    ensures onward { ComesIn D.meaning line.entry entry (used table.old) start.now (used table.new) result }
 {
     let mut walk = *start;
     if entry == 0 {

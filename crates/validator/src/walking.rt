@@ -24,7 +24,7 @@ fn leave<D: Domain>(
     requires room { table.old.len + length piece.now ≤ 512 }
     ensures size { capacity table.new ≡ 512 }
     ensures few { table.new.len ≤ table.old.len + length piece.now }
-    ensures leaves { Leaves meaning (used table.old) walk.now tested label piece.now (used table.new) result }
+    ensures leaves { Leaves D.meaning (used table.old) walk.now tested label piece.now (used table.new) result }
 {
     let mut after = *walk;
     acts::<D>(table, &mut after, piece);
@@ -48,7 +48,7 @@ pub(crate) fn next_stop<D: Domain>(
     ensures few { table.new.len + left line.entry cursor.new ≤ table.old.len + left line.entry cursor.old }
     ensures inside { InLine line.entry cursor.new }
     ensures onward { is_some result.condition ≡ true → cursor.old.place < cursor.new.place }
-    ensures stopped { ComesTo meaning line.entry (used table.old) cursor.old (used table.new) cursor.new result }
+    ensures stopped { ComesTo D.meaning line.entry (used table.old) cursor.old (used table.new) cursor.new result }
 {
     let main = line.part.main(line.side, &line.shape);
     while cursor.place < main.len() {

@@ -20,7 +20,7 @@ impl Shelf {
         terms: &mut [TermRow],
         region: usize,
     ) -> Result<Verdict, Refusal>
-        ensures answer { let st = store self.old rows.now labels.now in result ≡ check_answer meaning st region (length terms.old) }
+        ensures answer { let st = store self.old rows.now labels.now in result ≡ check_answer D.meaning st region (length terms.old) }
         ensures after { let st = store self.old rows.now labels.now in store self.new rows.now labels.now ≡ settled st (check_put st region) result }
         ensures room { length terms.new ≡ length terms.old }
     {

@@ -20,8 +20,8 @@ impl Shelf {
         entry: usize,
         state: &mut [D],
     ) -> Result<Outcome, Refusal>
-        ensures answer { let st = store self.now rows.now labels.now in result ≡ outcome_of (run_answer meaning st region side entry state.old) }
-        ensures after { let st = store self.now rows.now labels.now in state.new ≡ state_of state.old (run_answer meaning st region side entry state.old) }
+        ensures answer { let st = store self.now rows.now labels.now in result ≡ outcome_of (run_answer D.meaning st region side entry state.old) }
+        ensures after { let st = store self.now rows.now labels.now in state.new ≡ state_of state.old (run_answer D.meaning st region side entry state.old) }
     {
         let record = self.placed(rows.len(), labels.len(), region)?;
         let shape = record.line(side)?;

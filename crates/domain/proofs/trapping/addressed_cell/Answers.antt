@@ -1,4 +1,4 @@
-use Rattle.std.proofs.Common.{◌≡◌, ℕ, true, false, ℤ, pos, negsuc, nat_abs, sym, refl, ap, ◌∙◌, arith, w32, to_z, of_z, rules}
+use Rattle.std.proofs.Common.{◌≡◌, ℕ, false, ℤ, pos, negsuc, nat_abs, sym, refl, ap, ◌∙◌, arith, w32, to_z, of_z, rules}
 use lib.Signed.{lt_z}
 use Rattle.domain.specs.Slots.{slot_at}
 use Rattle.domain.specs.Trapping.{addressed}
@@ -8,8 +8,8 @@ not_negative : (z : ℤ) → lt_z z (pos 0) ≡ false → addressed z ≡ slot_a
 not_negative (pos n) h = refl
 not_negative (negsuc n) h = absurd (let z : ◌≡◌ {A = ℕ} 0 1 = cc in omega arith)
 
-pub returns-else-value-gt-LAST-SLOT : goal.returns-else-value-gt-LAST-SLOT
-returns-else-value-gt-LAST-SLOT c =
+pub returns-else-value-gt-LAST_SLOT : goal.returns-else-value-gt-LAST_SLOT
+returns-else-value-gt-LAST_SLOT c =
     let v = c.args.value in
     let same : to_z w32 (of_z w32 v) ≡ v = search rules in
     let h : lt_z v (pos 0) ≡ false = search rules in

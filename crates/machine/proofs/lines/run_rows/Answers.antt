@@ -1,11 +1,11 @@
 use Rattle.std.proofs.Common.{sym, ◌∙◌, arith, rules}
 use Rattle.machine.proofs.Running.{row_traps, row_goes, row_leaves, row_stays, row_joins, rows_end}
 use Rattle.machine.proofs.lines.run_rows.Goals as goal
-use Rattle.machine.proofs.lines.run_rows.Goals.{in-Act+else-is-none, in-Exit+else-truth, in-Join}
+use Rattle.machine.proofs.lines.run_rows.Goals.{in-Act+else-is_none, in-Exit+else-truth, in-Join}
 
-pub returns-then-is-none : goal.returns-then-is-none
-returns-then-is-none g c =
-    row_traps _ _ _ _ _ _ _ _ _ c.loop-row.invariant.2 c.loop-row-test.true c.row-item.is _ _ c.in-Act.is (sym c.step.ensures.traps ∙ c.if-is-none.ensures) c.step.ensures.state
+pub returns-then-is_none : goal.returns-then-is_none
+returns-then-is_none g c =
+    row_traps _ _ _ _ _ _ _ _ _ c.loop-row.invariant.2 c.loop-row-test.true c.row-item.is _ _ c.in-Act.is (sym c.step.ensures.traps ∙ c.if-is_none.ensures) c.step.ensures.state
 
 pub returns-then-truth : goal.returns-then-truth
 returns-then-truth g c =
@@ -15,10 +15,10 @@ pub loop-row-preserved : goal.loop-row-preserved
 loop-row-preserved g c =
     let l = c.loop-row in
     elim c.match-row.branch [
-      | in-Act+else-is-none w ↦ (
+      | in-Act+else-is_none w ↦ (
         omega (arith, w.exits-is),
         search rules,
-        row_goes _ _ _ _ _ _ _ _ _ l.invariant.2 c.loop-row-test.true c.row-item.is _ _ _ w.in-Act.is w.exits-is (sym w.step.ensures.traps ∙ w.if-is-none.ensures) (w.state-is ∙ w.step.ensures.state),
+        row_goes _ _ _ _ _ _ _ _ _ l.invariant.2 c.loop-row-test.true c.row-item.is _ _ _ w.in-Act.is w.exits-is (sym w.step.ensures.traps ∙ w.if-is_none.ensures) (w.state-is ∙ w.step.ensures.state),
       )
       | in-Exit+else-truth w ↦ (
         omega (arith, w.exits-is),

@@ -9,11 +9,11 @@ loop-b-preserved c =
     let l = c.loop-b in
     let xs = c.args.field.now in (
       omega arith,
-      ap (λ k. capped (digits k (drop (l.b-index + 1) xs))) c.min-n.ensures ∙ sym (more l.n xs l.b-index (omega arith) (sym c.if-not-is-ascii-digit.ensures.value)) ∙ l.invariant.1,
+      ap (λ k. capped (digits k (drop (l.b-index + 1) xs))) c.min-n.ensures ∙ sym (more l.n xs l.b-index (omega arith) (sym c.if-not-is_ascii_digit.ensures.value)) ∙ l.invariant.1,
     )
 
-pub returns-then-not-is-ascii-digit : goal.returns-then-not-is-ascii-digit
-returns-then-not-is-ascii-digit c = sym (stops _ _ c.loop-b.b-index (omega arith) (sym c.if-not-is-ascii-digit.ensures.value)) ∙ c.loop-b.invariant.1
+pub returns-then-not-is_ascii_digit : goal.returns-then-not-is_ascii_digit
+returns-then-not-is_ascii_digit c = sym (stops _ _ c.loop-b.b-index (omega arith) (sym c.if-not-is_ascii_digit.ensures.value)) ∙ c.loop-b.invariant.1
 
 pub returns : goal.returns
 returns c = sym (ends _ _ c.loop-b.b-index (omega arith) (omega arith)) ∙ c.loop-b.invariant.1

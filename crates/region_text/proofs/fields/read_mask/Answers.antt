@@ -2,16 +2,16 @@ use Rattle.std.proofs.Common.{Err, sym, ap, ◌∙◌, arith}
 use Rattle.region_text.proofs.Masks.{more, stops, room_more, room_le, whole, spoilt}
 use Rattle.region_text.proofs.fields.read_mask.Goals as goal
 
-pub returns-in-default : goal.returns-in-default
-returns-in-default c =
+pub returns-in_default : goal.returns-in_default
+returns-in_default c =
     let l = c.loop-b in
-    ap Err c.at-in-default.ensures ∙ spoilt c.args.field.now c.args.spot (omega arith) (sym (stops l.n c.args.field.now l.b-index (omega arith) (sym c.in-default.ensures.value)) ∙ l.invariant.1)
+    ap Err c.at-in_default.ensures ∙ spoilt c.args.field.now c.args.spot (omega arith) (sym (stops l.n c.args.field.now l.b-index (omega arith) (sym c.in_default.ensures.value)) ∙ l.invariant.1)
 
-pub overflow-mul-n : goal.overflow-mul-n
-overflow-mul-n c = omega (arith, room_le c.loop-b.b-index (omega arith))
+pub overflow_mul-n : goal.overflow_mul-n
+overflow_mul-n c = omega (arith, room_le c.loop-b.b-index (omega arith))
 
-pub overflow-add-n : goal.overflow-add-n
-overflow-add-n c = omega (arith, room_le c.loop-b.b-index (omega arith), c.in-Some.ensures.bound)
+pub overflow_add-n : goal.overflow_add-n
+overflow_add-n c = omega (arith, room_le c.loop-b.b-index (omega arith), c.in-Some.ensures.bound)
 
 pub loop-b-preserved : goal.loop-b-preserved
 loop-b-preserved c =

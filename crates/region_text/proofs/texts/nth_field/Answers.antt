@@ -8,18 +8,18 @@ use Rattle.region_text.proofs.texts.nth_field.Goals as goal
 pub loop-k-preserved : goal.loop-k-preserved
 loop-k-preserved c =
     let r = c.loop-k.rest.now in
-    let n = c.find-mark-end.result in
+    let n = c.find_mark-end.result in
     let t = take_rest r (n + 1) in (
       omega arith,
       rw t (omega (arith, length-drop (n + 1) r)),
-      rw t (sym (later r n (c.args.index - c.loop-k.k) (c.args.index - (c.loop-k.k + 1)) c.find-mark-end.ensures.place (omega arith) (omega arith)) ∙ c.loop-k.invariant.2),
+      rw t (sym (later r n (c.args.index - c.loop-k.k) (c.args.index - (c.loop-k.k + 1)) c.find_mark-end.ensures.place (omega arith) (omega arith)) ∙ c.loop-k.invariant.2),
     )
 
 pub returns : goal.returns
 returns c =
     let r = c.loop-k.rest.now in
-    let n = c.find-mark-end-2.result in
-    let e : n - 0 ≡ upto 9 r = omega (arith, c.find-mark-end-2.ensures.place) in
+    let n = c.find_mark-end-2.result in
+    let e : n - 0 ≡ upto 9 r = omega (arith, c.find_mark-end-2.ensures.place) in
     let z : 0 ≡ c.args.index - c.loop-k.k = omega arith in
     ap (λ k. take k r) e ∙ sym (first r) ∙ ap (field_at (fields r)) z ∙ c.loop-k.invariant.2
 
@@ -28,5 +28,5 @@ returns-then-end-rest c =
     let r = c.loop-k.rest.now in
     take_rest r _ ∙ drop_all _ r (omega arith) ∙ sym (none_later r (c.args.index - c.loop-k.k) (omega arith) (omega arith)) ∙ c.loop-k.invariant.2
 
-pub overflow-add-rest : goal.overflow-add-rest
-overflow-add-rest c = omega arith
+pub overflow_add-rest : goal.overflow_add-rest
+overflow_add-rest c = omega arith

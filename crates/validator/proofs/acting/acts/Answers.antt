@@ -2,7 +2,7 @@ use Rattle.std.proofs.Common.{ap, ◌∙◌, arith}
 use Rattle.numbering.specs.Used.{capacity, used}
 use Rattle.validator.proofs.Steps.{does_nothing, one_action, passed_over, all_rows}
 use Rattle.validator.proofs.acting.acts.Goals as goal
-use Rattle.validator.proofs.acting.acts.Goals.{in-Act, in-default}
+use Rattle.validator.proofs.acting.acts.Goals.{in-Act, in_default}
 
 pub loop-row-init : goal.loop-row-init
 loop-row-init g c = (c.requires.size, omega arith, does_nothing g.D.Domain.meaning _ _)
@@ -15,10 +15,10 @@ loop-row-preserved g c =
         omega (arith, ap (λ t. t.len) w.table-is, w.act.ensures.few, c.loop-row.invariant.1),
         one_action g.D.Domain.meaning _ _ _ c.loop-row-test.true c.row-item.is _ _ _ _ _ _ c.loop-row.invariant.2 w.in-Act.action _ _ w.in-Act.is (ap used w.table-is) w.walk-is w.act.ensures.acts,
       )
-      | in-default w ↦ (
+      | in_default w ↦ (
         ap capacity w.table-is ∙ c.loop-row.invariant.0,
         omega (arith, ap (λ t. t.len) w.table-is, c.loop-row.invariant.1),
-        passed_over g.D.Domain.meaning _ _ _ c.loop-row-test.true c.row-item.is _ _ _ _ _ _ c.loop-row.invariant.2 w.in-default.not-Act (ap used w.table-is) w.walk-is,
+        passed_over g.D.Domain.meaning _ _ _ c.loop-row-test.true c.row-item.is _ _ _ _ _ _ c.loop-row.invariant.2 w.in_default.not-Act (ap used w.table-is) w.walk-is,
       )
     ]
 

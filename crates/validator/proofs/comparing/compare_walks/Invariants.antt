@@ -14,13 +14,13 @@ invariant-loop-mismatch g l =
     let m = g.D.Domain.meaning in
     let β = basis m (live_in l.labels) in
     (capacity l.table ≡ 512)
-    × (l.table.len + left l.source l.at-source + left l.schedule l.at-schedule ≤ 512)
-    × InLine l.source l.at-source
-    × InLine l.schedule l.at-schedule
-    × (l.stop ≤ 1 + l.at-source.place)
-    × ((s t : Symbols) → Tidy m.commutes (used l.initial.table) → Means m.commutes (used l.initial.table) l.initial.at-source.walk s → Means m.commutes (used l.initial.table) l.initial.at-schedule.walk t
-    → Going m l.labels (used l.table) l.at-source.walk l.at-schedule.walk (ahead β l.source l.at-source) (ahead β l.schedule l.at-schedule) l.number l.stop
-    (stops_differ β l.number 1 (ahead β l.source l.initial.at-source s) (ahead β l.schedule l.initial.at-schedule t)))
+    × (l.table.len + left l.source l.at_source + left l.schedule l.at_schedule ≤ 512)
+    × InLine l.source l.at_source
+    × InLine l.schedule l.at_schedule
+    × (l.stop ≤ 1 + l.at_source.place)
+    × ((s t : Symbols) → Tidy m.commutes (used l.initial.table) → Means m.commutes (used l.initial.table) l.initial.at_source.walk s → Means m.commutes (used l.initial.table) l.initial.at_schedule.walk t
+    → Going m l.labels (used l.table) l.at_source.walk l.at_schedule.walk (ahead β l.source l.at_source) (ahead β l.schedule l.at_schedule) l.number l.stop
+    (stops_differ β l.number 1 (ahead β l.source l.initial.at_source s) (ahead β l.schedule l.initial.at_schedule t)))
 
 abbrev pub decreases-loop-mismatch : goal.decreases-loop-mismatch
-decreases-loop-mismatch g l = length (main_of l.source) - l.at-source.place
+decreases-loop-mismatch g l = length (main_of l.source) - l.at_source.place

@@ -25,7 +25,7 @@ returns-in-Some g c =
 
 pub loop-number-preserved : goal.loop-number-preserved
 loop-number-preserved g c =
-    first_below_more (entry_differs g.D.Domain.meaning c.args.labels.now (line_of c.args.source) (line_of c.args.schedule)) _ c.loop-number.invariant (sym c.in-default.ensures)
+    first_below_more (entry_differs g.D.Domain.meaning c.args.labels.now (line_of c.args.source) (line_of c.args.schedule)) _ c.loop-number.invariant (sym c.in_default.ensures)
 
 pub returns : goal.returns
 returns g c =

@@ -6,10 +6,10 @@ use Rattle.validator.proofs.differing.differ_registers.Goals as goal
 
 pub returns-then-mask-eq0 : goal.returns-then-mask-eq0
 returns-then-mask-eq0 c =
-    no_bit c.args.at.from c.args.at.stop Register (unlike c.args.x.now.registers c.args.y.now.registers) c.args.live _ c.differing-mask.ensures c.if-mask-eq0.true
+    no_bit c.args.at.from c.args.at.stop Register (unlike c.args.x.now.registers c.args.y.now.registers) c.args.live _ c.differing_mask.ensures c.if-mask-eq0.true
 
 pub returns : goal.returns
 returns c =
     c.found.ensures
-    ∙ lowest_bit c.args.at.from c.args.at.stop Register (unlike c.args.x.now.registers c.args.y.now.registers) c.args.live _ c.differing-mask.ensures
-    (omega arith) c.differing-mask.ensures.0 (omega arith)
+    ∙ lowest_bit c.args.at.from c.args.at.stop Register (unlike c.args.x.now.registers c.args.y.now.registers) c.args.live _ c.differing_mask.ensures
+    (omega arith) c.differing_mask.ensures.0 (omega arith)

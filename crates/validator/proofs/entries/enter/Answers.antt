@@ -19,7 +19,7 @@ returns g c =
     let line = c.args.line in
     record {
       size = c.acts.ensures.size;
-      few = omega (arith, c.acts.ensures.few, c.join-piece-piece.ensures.few);
+      few = omega (arith, c.acts.ensures.few, c.join_piece-piece.ensures.few);
       inside = record {
         inside = omega (arith, c.below-place.ensures.inside, ap length c.main-main.ensures.rows);
         counted = c.below-place.ensures.counted;
@@ -27,5 +27,5 @@ returns g c =
       onward = λ live tidy h.
           enter_join g.D.Domain.meaning live line.side (rows_of line.part) (kept line.shape) c.args.entry _ _ tidy h
           (c.args.entry - 1) _ _ _ _ _ _ (omega arith) c.main-main.ensures.rows
-          (c.below-place.ensures.entered (rows_of line.part) (kept line.shape) line.shape.joins (omega arith)) c.join-piece-piece.ensures.rows c.acts.ensures.acts;
+          (c.below-place.ensures.entered (rows_of line.part) (kept line.shape) line.shape.joins (omega arith)) c.join_piece-piece.ensures.rows c.acts.ensures.acts;
     }

@@ -2,8 +2,8 @@ use Rattle.std.proofs.Common.{arith, rules}
 use Rattle.validator.specs.Interning.{interned, one_more, number_inside}
 use Rattle.validator.proofs.terms.intern.Goals as goal
 
-pub overflow-cast-result : goal.overflow-cast-result
-overflow-cast-result c =
+pub overflow_cast-result : goal.overflow_cast-result
+overflow_cast-result c =
     let l = number_inside c.args.table.now _ _ _ c.number.ensures.answer c.unwrap.ensures in
     omega (arith, c.requires.size)
 

@@ -37,14 +37,14 @@ loop-cursor-preserved-in-Act g c =
 pub leave-requires : goal.leave-requires
 leave-requires g c =
     let line = c.args.line in
-    let fits = piece_fits (rows_of line.part) line.shape c.loop-cursor.cursor.exits _ c.exit-piece-piece.ensures.rows c.exit-piece-piece.ensures.few in
+    let fits = piece_fits (rows_of line.part) line.shape c.loop-cursor.cursor.exits _ c.exit_piece-piece.ensures.rows c.exit_piece-piece.ensures.few in
     record { size = c.loop-cursor.invariant.0; room = omega (arith, ap length c.main-main.ensures.rows) }
 
 pub returns-in-Exit : goal.returns-in-Exit
 returns-in-Exit g c =
     let line = c.args.line in
     let inv = c.loop-cursor.invariant in
-    let fits = piece_fits (rows_of line.part) line.shape c.loop-cursor.cursor.exits _ c.exit-piece-piece.ensures.rows c.exit-piece-piece.ensures.few in
+    let fits = piece_fits (rows_of line.part) line.shape c.loop-cursor.cursor.exits _ c.exit_piece-piece.ensures.rows c.exit_piece-piece.ensures.few in
     record {
       size = c.leave.ensures.size;
       few = omega (arith, ap length c.main-main.ensures.rows);
@@ -53,7 +53,7 @@ returns-in-Exit g c =
       stopped = λ live s tidy h.
           at_exit g.D.Domain.meaning live (rows_of line.part) (kept line.shape) (main_of line) c.loop-cursor.cursor.exits _ _ _ _ _ (inv.4 live s tidy h)
           _ c.main-main.ensures.rows _ c.loop-cursor-test.true c.index-main-cursor.is c.in-Exit.tested c.in-Exit.label _ _ _ c.in-Exit.is
-          c.exit-piece-piece.ensures.rows c.leave.ensures.leaves;
+          c.exit_piece-piece.ensures.rows c.leave.ensures.leaves;
     }
 
 pub loop-cursor-preserved : goal.loop-cursor-preserved

@@ -1,4 +1,3 @@
-use Rattle.std.proofs.Common.{rules}
 use Rattle.domain.specs.Ranges.{slot_some}
 use Rattle.domain.proofs.slot.Slot.new.Goals as goal
 

@@ -1,5 +1,5 @@
 -- A turn finds the row or goes past it, by what `same` answers; at the end no row is left.
-use Rattle.std.proofs.Common.{◌≡◌, sym, ◌∙◌}
+use Rattle.std.proofs.Common.{sym, ◌∙◌}
 use Rattle.numbering.proofs.Steps.{here, past, at_end}
 use Rattle.numbering.proofs.table.Table.find.Goals as goal
 

@@ -25,7 +25,7 @@ pub returns : goal.returns
 returns g c =
     let now = c.args.self.now in
     let l : now.len < length now.rows.now = omega arith in
-    let next = pushed g.R.Kind.equals now.rows.now now.len now.inside c.args.row l c.in-default.ensures in
+    let next = pushed g.R.Kind.equals now.rows.now now.len now.inside c.args.row l c.in_default.ensures in
     let after : used c.push.new.self ≡ with_row g.R.Kind.equals (capacity now) (used now) c.args.row = cc in
     let rest : drop (now.len + 1) (set now.rows.now now.len c.args.row) ≡ drop (now.len + 1) now.rows.now = search (rules, drop-set-lt) in
     record {

@@ -2,20 +2,20 @@ use Rattle.std.proofs.Common.{◌≡◌, ◌++◌, length, sym, ap, ◌∙◌, a
 use Rattle.std.proofs.lemmas.List.{length-set, take_all}
 use Rattle.region.proofs.PieceLaws.{main_copied, piece_copied, schedule_laid, main_long, both_long}
 use Rattle.region.proofs.piece_rows.PieceRows.laid_behind.Goals as goal
-use Rattle.region.proofs.piece_rows.PieceRows.laid_behind.Goals.{then-i-lt-MAIN-ROWS, else-i-lt-MAIN-ROWS}
+use Rattle.region.proofs.piece_rows.PieceRows.laid_behind.Goals.{then-i-lt-MAIN_ROWS, else-i-lt-MAIN_ROWS}
 
 pub loop-i-preserved : goal.loop-i-preserved
 loop-i-preserved c =
     let l = c.loop-i in
     let xs = c.rows-first.result in
     let ys = c.args.self.now.rows in
-    let row = c.if-i-lt-MAIN-ROWS.rows in
+    let row = c.if-i-lt-MAIN_ROWS.rows in
     let long : length xs ≡ 96 = ap length c.rows-first.ensures ∙ main_long c.args.main.now c.args.self.now in
     let all : length (xs ++ ys) ≡ 288 = ap (λ zs. length (zs ++ ys)) c.rows-first.ensures ∙ both_long c.args.main.now c.args.self.now in (
       length-set l.rows l.i row ∙ l.invariant.0,
-      elim c.if-i-lt-MAIN-ROWS.branch [
-        | then-i-lt-MAIN-ROWS w ↦ main_copied l.rows xs ys l.i row _ l.invariant.1 (omega arith) (omega arith) (omega arith) w.rows-is
-        | else-i-lt-MAIN-ROWS w ↦ piece_copied l.rows xs ys l.i row _ l.invariant.1 (omega arith) (omega arith) long (omega arith) w.rows-is
+      elim c.if-i-lt-MAIN_ROWS.branch [
+        | then-i-lt-MAIN_ROWS w ↦ main_copied l.rows xs ys l.i row _ l.invariant.1 (omega arith) (omega arith) (omega arith) w.rows-is
+        | else-i-lt-MAIN_ROWS w ↦ piece_copied l.rows xs ys l.i row _ l.invariant.1 (omega arith) (omega arith) long (omega arith) w.rows-is
       ],
     )
 

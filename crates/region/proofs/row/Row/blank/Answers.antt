@@ -1,4 +1,4 @@
-use Rattle.std.proofs.Common.{◌≡◌, ap, lit<}
+use Rattle.std.proofs.Common.{ap, lit<}
 use Rattle.region.specs.declared.numbers.Register.{Register}
 use Rattle.region.specs.declared.row.Action.TheVariants.{Literal}
 use Rattle.region.specs.declared.row.Row.TheVariants.{Act}

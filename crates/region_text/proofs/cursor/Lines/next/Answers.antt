@@ -11,8 +11,8 @@ returns-then-rest-eq0 c = record { line = ap lines (nil_from_length c.args.self.
 pub returns : goal.returns
 returns c =
     let xs = c.args.self.now.rest.now in
-    let n = c.find-mark-end.result in
-    let place = c.find-mark-end.ensures.place in
+    let n = c.find_mark-end.result in
+    let place = c.find_mark-end.ensures.place in
     elim c.if-ended.branch [
       | then-ended w ↦
           let left : c.if-ended.next.now ≡ drop (n + 1) xs = ap (λ s. s.now) w.next-is ∙ take_rest xs (n + 1) in
