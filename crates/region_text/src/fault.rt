@@ -2,7 +2,7 @@
 
 ghost use Rattle.std.specs.Prelude.{◌≡◌};
 ghost use Rattle.region_text.specs.declared.fault.LineFault.TheVariants.{Field as Within, Line as Whole};
-ghost use Rattle.region_text.specs.Faults.{printed, refusal_of, unended};
+ghost use Rattle.region_text.specs.Faults.{layer_name, printed, refusal_of, unended};
 
 /// What is wrong, in the order of the printed numbers, which begin at 6.
 #[derive(Clone, Copy, PartialEq, Eq)]
@@ -40,6 +40,19 @@ pub enum Layer {
     Field,
     Line,
     Shelf,
+}
+
+impl Layer {
+    /// The word that is printed for the layer.
+    pub fn name(self) -> &'static str
+        ensures { result.now ≡ layer_name self }
+    {
+        match self {
+            Layer::Field => "field",
+            Layer::Line => "line",
+            Layer::Shelf => "shelf",
+        }
+    }
 }
 
 /// Where a field stands: lines and fields count from 1.

@@ -1,10 +1,12 @@
 -- What each call answers, and the store that it leaves.
-use Rattle.std.specs.Prelude.{ℕ, ◌+◌, ◌*◌, ◌/◌, cond, ◌&&◌, List, [], ◌++◌, length, replicate, Some, None, Ok, Err, Option, Result, ◌==◌, nat_le, nat_lt, slice_index_or, slice_set}
+use Rattle.std.specs.Prelude.{ℕ, ◌+◌, ◌*◌, ◌/◌, Bool, true, false, cond, ◌&&◌, List, [], ◌++◌, length, replicate, Some, None, Ok, Err, Option, Result, ◌==◌, nat_le, nat_lt, slice_index_or, slice_set}
+use Rattle.std.specs.Borrow.{Bor}
 use Rattle.domain.specs.Meaning.{Meaning}
 use Rattle.region.specs.declared.outcome.Misfit.{Misfit}
 use Rattle.region.specs.declared.outcome.Outcome.{Outcome}
 use Rattle.region.specs.declared.side.Side.{Side}
 use Rattle.region.specs.declared.side.Side.TheVariants.{Source, Schedule}
+use Rattle.region.specs.declared.row.Row.{Row}
 use Rattle.region.specs.declared.shape.Shape.{Shape}
 use Rattle.region.specs.Kept.{Kept, kept}
 use Rattle.region.specs.Labels.{unused}
@@ -16,13 +18,14 @@ use Rattle.region_text.specs.Schedules.{read_schedule}
 use Rattle.region_text.specs.Sources.{read_source}
 use Rattle.validator.specs.declared.unfit.Unfit.{Unfit}
 use Rattle.validator.specs.declared.verdict.Verdict.{Verdict}
+use Rattle.validator.specs.declared.verdict.Verdict.TheVariants.{Passed, Failed}
 use Rattle.validator.specs.Compared.{compared}
 use Rattle.shelf.specs.declared.record.Record.{Record}
 use Rattle.shelf.specs.declared.refusal.Number.{Number}
 use Rattle.shelf.specs.declared.refusal.Number.TheVariants as number
 use Rattle.shelf.specs.declared.refusal.Refusal.{Refusal}
 use Rattle.shelf.specs.Refusals.{without_place, of_text, of_misfit}
-use Rattle.shelf.specs.Store.{KeptRegion, kept_region, empty_region, Store, written, rows_of_region, labels_of_region}
+use Rattle.shelf.specs.Store.{KeptRegion, kept_region, empty_region, Store, part, written, rows_of_region, labels_of_region}
 
 -- the first refusal decides
 abbrev pub bind : {X Y : Type 0} → Result X Refusal → (X → Result Y Refusal) → Result Y Refusal
@@ -182,3 +185,23 @@ check_put st r v = record {
   rows = st.rows;
   labels = st.labels;
 }
+
+-- whether a mark is passed
+abbrev pub is_passed : Option Verdict → Bool
+is_passed None = false
+is_passed (Some Passed) = true
+is_passed (Some (Failed x)) = false
+
+-- declined unless the mark is passed
+abbrev pub passing : Option Verdict → Result (Unit {0}) Refusal
+passing mark = cond (is_passed mark) (Ok tt) (Err (without_place number.NotPassed))
+
+-- HAND-OUT: rows 96 to 383 of the region, where it holds a schedule and its mark is passed
+abbrev pub hand_out_answer : Store → ℕ → Result (List Row) Refusal
+hand_out_answer st r =
+    bind (region_of st r) (λ k. bind (line_of Schedule k) (λ _. bind (passing k.mark) (λ _. Ok (part (384 * r + 96) 288 st.rows))))
+
+-- what lies in the part that is handed out
+abbrev pub seen : Result (Bor (List Row)) Refusal → Result (List Row) Refusal
+seen (Ok rows) = Ok rows.now
+seen (Err e) = Err e

@@ -15,6 +15,7 @@ printed_number number.Sizes = 1
 printed_number number.Region = 2
 printed_number number.Source = 3
 printed_number number.Schedule = 4
+printed_number number.NotPassed = 5
 printed_number (number.Text f) = printed f
 printed_number number.Entry = 11
 printed_number number.State = 12

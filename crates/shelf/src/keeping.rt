@@ -6,6 +6,7 @@ use super::record::Record;
 mod checking;
 mod dropping;
 mod finding;
+mod handing;
 mod opening;
 mod reading;
 mod running;

@@ -2,7 +2,7 @@
 ghost use Rattle.std.specs.Prelude.{◌≡◌};
 ghost use Rattle.region.specs.Kept.{kept};
 ghost use Rattle.shelf.specs.Store.{kept_region};
-ghost use Rattle.shelf.specs.Calls.{kept_line, line_of, marked as with_mark, scheduled as with_schedule};
+ghost use Rattle.shelf.specs.Calls.{kept_line, line_of, marked as with_mark, passing, scheduled as with_schedule};
 
 use super::record::Record;
 use super::refusal::{Number, Refusal};
@@ -25,6 +25,19 @@ impl Record {
                 };
                 Ok(schedule)
             }
+        }
+    }
+
+    // Declines what only a passed schedule is granted.
+    pub(crate) fn passed(self) -> Result<(), Refusal>
+        ensures { result ≡ passing self.mark }
+    {
+        match self.mark {
+            None => Err(Refusal::of(Number::NotPassed)),
+            Some(verdict) => match verdict {
+                Verdict::Passed => Ok(()),
+                Verdict::Failed(_) => Err(Refusal::of(Number::NotPassed)),
+            },
         }
     }
 

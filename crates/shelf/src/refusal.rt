@@ -12,6 +12,8 @@ pub enum Number {
     Source,
     /// 4: the region holds no schedule.
     Schedule,
+    /// 5: the schedule has not passed.
+    NotPassed,
     /// 6 to 10: the text is at fault.
     Text(Fault),
     /// 11: the line has no such entry.

@@ -18,6 +18,7 @@ impl Number {
             Number::Region => 2,
             Number::Source => 3,
             Number::Schedule => 4,
+            Number::NotPassed => 5,
             Number::Text(fault) => fault.number(),
             Number::Entry => 11,
             Number::State => 12,

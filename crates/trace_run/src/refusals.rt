@@ -1,6 +1,6 @@
 // Refusals as a person reads them.
 use super::trouble::Trouble;
-use region_text::{Fault, Layer};
+use region_text::Fault;
 use shelf::{Number, Refusal};
 use std::alloc::Global;
 
@@ -11,6 +11,7 @@ fn number_words(number: Number) -> &'static str {
         Number::Region => "there is no such region",
         Number::Source => "no source is held",
         Number::Schedule => "no schedule is held",
+        Number::NotPassed => "the schedule has not passed",
         Number::Text(fault) => fault_words(fault),
         Number::Entry => "the line has no such entry",
         Number::State => "a state has 80 words",
@@ -28,20 +29,12 @@ fn fault_words(fault: Fault) -> &'static str {
     }
 }
 
-fn layer_name(layer: Layer) -> &'static str {
-    match layer {
-        Layer::Field => "field",
-        Layer::Line => "line",
-        Layer::Shelf => "shelf",
-    }
-}
-
 /// A refusal, and the file or argument that it is about.
 pub(crate) fn refused(heap: Global, about: &str, refusal: Refusal) -> Trouble {
     let number = refusal.number.printed();
     let line = refusal.line;
     let field = refusal.field;
-    let layer = layer_name(refusal.layer);
+    let layer = refusal.layer.name();
     let words = number_words(refusal.number);
     match format!(in heap;
         "{about}: line {line}, field {field}: {words} (refusal {number}, layer {layer})"

@@ -1,6 +1,7 @@
 pub mod Terms
 pub mod Walks
 pub mod Comparison
+pub mod Reasons
 pub mod Live
 pub mod Compared
 pub mod TermRows

@@ -1,4 +1,6 @@
 // What the comparison of a schedule with its source answers.
+ghost use Rattle.std.specs.Prelude.{◌≡◌};
+ghost use Rattle.validator.specs.Reasons.{reason_name};
 
 /// What differs first between the walks of a source and of its schedule.
 #[derive(Clone, Copy)]
@@ -17,6 +19,23 @@ pub enum Reason {
     Bank,
     /// The sets of rows that may have trapped differ.
     Traps,
+}
+
+impl Reason {
+    /// The word that is printed for the reason.
+    pub fn name(self) -> &'static str
+        ensures { result.now ≡ reason_name self }
+    {
+        match self {
+            Reason::Joins => "joins",
+            Reason::End => "end",
+            Reason::Condition => "condition",
+            Reason::Label => "label",
+            Reason::Register => "register",
+            Reason::Bank => "bank",
+            Reason::Traps => "traps",
+        }
+    }
 }
 
 /// The first mismatch: entries count from 0 and stops from 1; `number` is the register or bank, and else 0.
