@@ -6,3 +6,4 @@ pub mod Declaring
 pub mod Placing
 pub mod Whole
 pub mod Refused
+pub mod Fits

@@ -2,4 +2,4 @@ use Rattle.shelf.proofs.Finding.{reads}
 use Rattle.shelf.proofs.keeping.Shelf.kept.Goals as goal
 
 pub returns : goal.returns
-returns c = reads c.args.self.now c.args.region c.index-self-region.result c.if-region-self.false
+returns c = reads c.args.self.now c.args.region _ c.if-region-self.false

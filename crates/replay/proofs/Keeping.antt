@@ -1,12 +1,12 @@
 -- Each call leaves the store of what is held then.
-use Rattle.std.proofs.Common.{◌≡◌, ℕ, zero, suc, ◌+◌, ◌*◌, ◌<◌, ◌≤◌, min, Bool, true, false, cond, ◌&&◌, eqb, ltb, List, [], ◌∷◌, ◌++◌, length, get_or, replicate, Some, None, Ok, Err, Option, Result, sym, refl, ap, ◌∙◌, subst, ap₂, mul-zero, mul-suc, arith}
+use Rattle.std.proofs.Common.{◌≡◌, ℕ, zero, suc, ◌*◌, ◌<◌, ◌≤◌, min, Bool, true, false, cond, ltb, List, ◌∷◌, ◌++◌, get_or, replicate, Some, None, Ok, Err, Option, Result, sym, refl, ap, ◌∙◌, subst, ap₂, mul-zero, mul-suc}
 use mathlib.Core.Path.{fun_ext}
 use Rattle.std.proofs.lemmas.List.{replicate-append-replicate}
 use Rattle.std.proofs.lemmas.Bool.{ltb-true}
 use Rattle.domain.specs.Meaning.{Meaning}
 use Rattle.region.specs.Labels.{unused}
-use Rattle.region.specs.Listing.{source_kept, schedule_kept}
-use Rattle.region.specs.Rows.{blank, laid}
+use Rattle.region.specs.Listing.{schedule_kept}
+use Rattle.region.specs.Rows.{laid}
 use Rattle.region_text.specs.declared.fault.Refusal.{Refusal as TextRefusal}
 use Rattle.region_text.specs.Drafts.{Draft, LaidSchedule, laid_source, laid_schedule}
 use Rattle.region_text.specs.Schedules.{Schedule, read_schedule}
@@ -17,18 +17,18 @@ use Rattle.shelf.specs.declared.refusal.Number.TheVariants as number
 use Rattle.shelf.specs.declared.refusal.Refusal.{Refusal}
 use Rattle.shelf.specs.Calls.{from_text, granted, settled, source_put, schedule_put, scheduled, check_put, marked, dropped}
 use Rattle.shelf.specs.Refusals.{without_place}
-use Rattle.shelf.specs.Store.{KeptRegion, Store, empty_region, written}
+use Rattle.shelf.specs.Store.{KeptRegion, Store, empty_region}
 use Rattle.replay.specs.declared.call.Answer.{Answer}
-use Rattle.replay.specs.declared.call.Answer.TheVariants.{Done, Judged, HandedOut, Declined}
+use Rattle.replay.specs.declared.call.Answer.TheVariants.{Done, Judged}
 use Rattle.replay.specs.Requests as call
 use Rattle.replay.specs.Requests.{Request}
-use Rattle.replay.specs.Events.{Event, is_granted, counts}
+use Rattle.replay.specs.Events.{Event, counts}
 use Rattle.replay.specs.Held.{Held, nothing, said, said_for, verdict_of, compared, held_after, held}
 use Rattle.replay.specs.Answers.{answered, answer_to}
 use Rattle.replay.specs.Steps.{store_after, Kept}
-use Rattle.replay.specs.Stored.{rows_part, label_part, record_of, in_order, stored}
-use Rattle.replay.proofs.ByHeld.{scheduled_by, judged_by, source_by, schedule_by, check_by, hand_out_by}
-use Rattle.replay.proofs.Regions.{Fits, held_fits, Changed, changed, record_at, region_known, whole_put, schedule_put_in, record_put}
+use Rattle.replay.specs.Stored.{record_of, in_order, stored}
+use Rattle.replay.proofs.ByHeld.{scheduled_by, judged_by, source_by, schedule_by, check_by}
+use Rattle.replay.proofs.Regions.{Fits, held_fits, changed, record_at, region_known, whole_put, schedule_put_in, record_put}
 
 either : {X : Type 0} (b : Bool) (x : X) → x ≡ cond b x x
 either true x = refl

@@ -1,25 +1,21 @@
 -- The law of every list of calls.
-use Rattle.std.proofs.Common.{◌≡◌, ℕ, zero, suc, ◌+◌, ◌*◌, ◌/◌, ◌<◌, ◌≤◌, min, Bool, true, false, cond, ◌&&◌, eqb, ltb, leb, List, [], ◌∷◌, ◌++◌, length, get_or, take, drop, replicate, Some, None, Ok, Err, Option, Result, sym, refl, ap, ◌∙◌, subst, ap₂, ⊎_elim, arith}
-use Rattle.std.proofs.lemmas.Bool.{and_parts, eqb-true, le-ltb, leb-true, lt-ltb, ltb-false, ltb-true, cases_lt}
+use Rattle.std.proofs.Common.{◌≡◌, ℕ, ◌*◌, ◌/◌, ◌<◌, ◌≤◌, min, Bool, true, false, cond, ◌&&◌, eqb, ltb, leb, List, [], ◌∷◌, ◌++◌, length, get_or, replicate, Some, None, Ok, Err, Option, Result, sym, refl, ap, ◌∙◌, subst, ⊎_elim, arith}
+use Rattle.std.proofs.lemmas.Bool.{and_parts, eqb-true, le-ltb, leb-true, lt-ltb, cases_lt}
 use Rattle.domain.specs.Meaning.{Meaning, Lawful}
-use Rattle.region.specs.declared.row.Row.{Row}
 use Rattle.region.specs.Labels.{unused}
-use Rattle.region.specs.Lines.{joins}
-use Rattle.region.specs.Rows.{blank, joins_in}
+use Rattle.region.specs.Rows.{blank}
 use Rattle.region_text.specs.Schedules.{Schedule}
 use Rattle.region_text.specs.Sources.{Source}
 use Rattle.validator.specs.declared.verdict.Verdict.{Verdict}
 use Rattle.validator.specs.declared.verdict.Verdict.TheVariants.{Passed, Failed}
 use Rattle.validator.specs.Live.{live_in}
-use Rattle.moves.specs.Moves.{Derived}
 use Rattle.moves.proofs.Completeness.{complete}
 use Rattle.moves.proofs.Found.{passed as passed_means}
 use Rattle.moves.proofs.Soundness.{sound}
 use Rattle.shelf.specs.declared.refusal.Number.TheVariants as number
-use Rattle.shelf.specs.declared.refusal.Refusal.{Refusal}
-use Rattle.shelf.specs.Calls.{opening, opened, reading, hand_out_answer, is_passed}
+use Rattle.shelf.specs.Calls.{opening, opened, reading, is_passed}
 use Rattle.shelf.specs.Refusals.{without_place}
-use Rattle.shelf.specs.Store.{KeptRegion, Store, empty_region}
+use Rattle.shelf.specs.Store.{Store, empty_region}
 use Rattle.shelf.proofs.Granting.{same_store}
 use Rattle.replay.specs.declared.call.Answer.{Answer}
 use Rattle.replay.specs.declared.call.Answer.TheVariants.{Done, Judged, HandedOut, Declined}

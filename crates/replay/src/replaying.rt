@@ -22,7 +22,7 @@ pub fn replay<D: Domain>(
     calls: &[Call],
     answers: &mut [Answer],
 ) -> Result<usize, Refusal>
-    ensures law { let st = store shelf.old rows.old labels.old in let st' = store shelf.new rows.new labels.new in Replayed meaning (length terms.old) calls.now st st' answers.old answers.new result }
+    ensures law { let st = store shelf.old rows.old labels.old in let st' = store shelf.new rows.new labels.new in Replayed D.meaning (length terms.old) calls.now st st' answers.old answers.new result }
     ensures room { length terms.new ≡ length terms.old }
 {
     let _ = shelf.open(rows, labels)?;

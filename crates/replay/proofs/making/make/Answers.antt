@@ -1,5 +1,5 @@
 -- Each call leaves and answers what its definition says.
-use Rattle.std.proofs.Common.{◌≡◌, length, sym, ap, ◌∙◌, rules}
+use Rattle.std.proofs.Common.{length, sym, ap, ◌∙◌, rules}
 use Rattle.shelf.specs.Store.{store}
 use Rattle.replay.specs.declared.call.Answer.TheVariants.{Done}
 use Rattle.replay.specs.Requests.{asked}
@@ -14,7 +14,7 @@ returns-in-Schedule g c =
     let m = g.D.Domain.meaning in
     let n = length c.args.terms.now in
     record {
-      answer = c.done-in-Schedule.ensures ∙ ap (answered (λ _. Done)) c.put-schedule.ensures.answer ∙ answered_granted Done _ ∙ ap (λ k. answer_to m n st (asked k)) (sym c.in-Schedule.is);
-      after = c.put-schedule.ensures.after ∙ ap (λ k. store_after m n st (asked k)) (sym c.in-Schedule.is);
+      answer = c.done-in-Schedule.ensures ∙ ap (answered (λ _. Done)) c.put_schedule.ensures.answer ∙ answered_granted Done _ ∙ ap (λ k. answer_to m n st (asked k)) (sym c.in-Schedule.is);
+      after = c.put_schedule.ensures.after ∙ ap (λ k. store_after m n st (asked k)) (sym c.in-Schedule.is);
       room = search rules;
     }

@@ -3,7 +3,6 @@ use Rattle.std.specs.Prelude.{ℕ, zero, suc, List, [], ◌∷◌, ◌++◌, rep
 use Rattle.std.specs.Option.{option_map}
 use Rattle.region.specs.declared.label.LabelRow.{LabelRow}
 use Rattle.region.specs.declared.row.Row.{Row}
-use Rattle.region.specs.Kept.{Kept}
 use Rattle.region.specs.Labels.{unused}
 use Rattle.region.specs.Listing.{source_kept, schedule_kept}
 use Rattle.region.specs.Pieces.{schedule_rows}

@@ -1,17 +1,16 @@
 -- The lines that are read from a region's rows are those that the texts say.
-use Rattle.std.proofs.Common.{◌≡◌, ℕ, zero, suc, ◌+◌, ◌-◌, ◌*◌, ◌<◌, ◌≤◌, eqb, List, [], ◌∷◌, ◌++◌, map, length, get_or, take, drop, replicate, sym, refl, ap, ◌∙◌, subst, ap₂, append_assoc, zero-add, mul-suc, add-one, one-add, arith, length-append, drop-drop, take_at, drop_at}
+use Rattle.std.proofs.Common.{◌≡◌, ℕ, zero, suc, ◌+◌, ◌-◌, ◌*◌, ◌≤◌, eqb, List, [], ◌∷◌, ◌++◌, map, length, get_or, take, drop, replicate, sym, refl, ap, ◌∙◌, ap₂, append_assoc, zero-add, add-one, one-add, arith, length-append, drop-drop, take_at, drop_at}
 use mathlib.Core.Path.{fun_ext}
 use lib.ListN.{length-replicate}
 use Rattle.std.proofs.lemmas.List.{append-nil}
 use Rattle.region.specs.declared.label.LabelRow.{LabelRow}
-use Rattle.region.specs.declared.numbers.LabelNumber.{LabelNumber}
 use Rattle.region.specs.declared.row.Row.{Row}
 use Rattle.region.specs.declared.row.Row.TheVariants.{Act, Exit, Join}
 use Rattle.region.specs.declared.side.Side.TheVariants as side
 use Rattle.region.specs.Kept.{Kept}
 use Rattle.region.specs.Labels.{unused}
 use Rattle.region.specs.Layout.{exit_rows, join_rows}
-use Rattle.region.specs.Lines.{Line, Place, act, exit, join, joins, places_of, assembled}
+use Rattle.region.specs.Lines.{act, exit, join, joins, places_of, assembled}
 use Rattle.region.specs.Listing.{source_kept, schedule_kept}
 use Rattle.region.specs.Pieces.{laid_pieces, schedule_rows}
 use Rattle.region.specs.Rows.{actions, blank, joins_in, laid}
@@ -19,7 +18,7 @@ use Rattle.region_text.specs.Schedules.{Schedule}
 use Rattle.region_text.specs.Sources.{Source}
 use Rattle.validator.specs.Live.{bit, live_in}
 use Rattle.replay.specs.Said.{placed, source_line, schedule_line}
-use Rattle.region_text.proofs.Fits.{Short, SourceFits, ScheduleFits}
+use Rattle.region_text.proofs.Fits.{Short, ScheduleFits}
 
 module _ {X : Type 0} where
   pub length_laid : (n : ℕ) (x : X) (xs : List X) → length xs ≤ n → length (laid n x xs) ≡ n

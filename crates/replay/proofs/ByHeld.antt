@@ -1,5 +1,5 @@
 -- What calls answer, told by what the regions hold.
-use Rattle.std.proofs.Common.{◌≡◌, ℕ, ◌+◌, ◌*◌, ◌<◌, ◌≤◌, Bool, true, false, cond, eqb, ltb, leb, List, ◌++◌, length, take, drop, Some, None, Ok, Err, Option, Result, sym, refl, ap, ◌∙◌, subst, ap₂, arith, drop-drop, drop_at}
+use Rattle.std.proofs.Common.{◌≡◌, ℕ, ◌+◌, ◌*◌, ◌<◌, ◌≤◌, Bool, true, false, cond, eqb, ltb, leb, List, ◌++◌, length, take, drop, Some, None, Ok, Err, Option, Result, sym, refl, ap, ◌∙◌, subst, ap₂, drop-drop, drop_at}
 use Rattle.std.proofs.lemmas.List.{drop-take}
 use Rattle.std.proofs.lemmas.Bool.{eq-eqb, le-leb, le-ltb, lt-ltb, ltb-true, ltb-false}
 use Rattle.std.specs.Option.{option_map}
@@ -14,9 +14,8 @@ use Rattle.region.specs.Labels.{unused}
 use Rattle.region.specs.Lines.{Line, assembled}
 use Rattle.region.specs.Listing.{source_kept, schedule_kept}
 use Rattle.region.specs.Machine.{Ended, run, run_in}
-use Rattle.region.specs.Pieces.{schedule_rows}
-use Rattle.region.specs.Rows.{blank, joins_in, laid}
-use Rattle.region_text.specs.Drafts.{Draft, LaidSchedule, laid_source, laid_schedule}
+use Rattle.region.specs.Rows.{joins_in, laid}
+use Rattle.region_text.specs.Drafts.{LaidSchedule, laid_source, laid_schedule}
 use Rattle.region_text.specs.Schedules.{Schedule, read_schedule}
 use Rattle.region_text.specs.Sources.{Source, read_source}
 use Rattle.region_text.proofs.Fits.{SourceFits, ScheduleFits}
@@ -30,12 +29,12 @@ use Rattle.shelf.specs.declared.refusal.Number.TheVariants as number
 use Rattle.shelf.specs.declared.refusal.Refusal.{Refusal}
 use Rattle.shelf.specs.Calls.{bind, needed, from_run, from_text, from_unfit, region_of, line_of, source_answer, schedule_answer, check_answer, hand_out_answer, run_answer, is_passed, passing}
 use Rattle.shelf.specs.Refusals.{without_place}
-use Rattle.shelf.specs.Store.{KeptRegion, Store, part, rows_of_region, labels_of_region}
+use Rattle.shelf.specs.Store.{KeptRegion, part, rows_of_region, labels_of_region}
 use Rattle.replay.specs.Held.{Held, verdict_of}
 use Rattle.replay.specs.Law.{handed}
 use Rattle.replay.specs.Said.{source_line, schedule_line}
 use Rattle.replay.specs.Stored.{source_part, schedule_part, label_part, rows_part, record_of, stored}
-use Rattle.replay.proofs.ReadBack.{length_laid, source_back, schedule_back, live_back}
+use Rattle.replay.proofs.ReadBack.{source_back, schedule_back, live_back}
 use Rattle.replay.proofs.Regions.{SourceInPlace, ScheduleInPlace, Fits, length_source_part, length_label_part, length_rows_part, rows_at, labels_at, region_known}
 
 bind_cond : {X Y : Type 0} (b : Bool) (x : X) (e : Refusal) (f : X → Result Y Refusal) → bind (cond b (Ok x) (Err e)) f ≡ cond b (f x) (Err e)

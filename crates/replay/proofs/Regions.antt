@@ -1,12 +1,8 @@
 -- What a store keeps of a region and where its parts lie, told by what the regions hold.
-use Rattle.std.proofs.Common.{◌≡◌, ℕ, zero, suc, ◌+◌, ◌*◌, ◌<◌, ◌≤◌, Bool, true, false, cond, ◌&&◌, eqb, ltb, List, [], ◌∷◌, ◌++◌, length, get_or, take, drop, set, replicate, Some, None, Ok, Err, Option, Result, sym, refl, ap, ◌∙◌, subst, ap₂, ⊎_elim, arith, lit≤, length-append, take-take, take_at}
-use mathlib.Core.Path.{fun_ext}
+use Rattle.std.proofs.Common.{◌≡◌, ℕ, ◌+◌, ◌*◌, ◌<◌, ◌≤◌, Bool, true, false, cond, ◌&&◌, eqb, ltb, List, [], ◌∷◌, ◌++◌, length, get_or, take, drop, set, Some, None, Ok, Err, Option, Result, sym, refl, ap, ◌∙◌, ap₂, ⊎_elim, arith, lit≤, length-append, take-take, take_at}
 use lib.ListN.{length-replicate}
-use Rattle.std.proofs.lemmas.List.{replicate-append-replicate}
-use Rattle.std.proofs.lemmas.Bool.{eq-eqb, ne_eqb, cases_eq, lt-ltb, ltb-true}
+use Rattle.std.proofs.lemmas.Bool.{eq-eqb, ne_eqb, cases_eq, ltb-true}
 use Rattle.domain.specs.Meaning.{Meaning}
-use Rattle.region.specs.declared.label.LabelRow.{LabelRow}
-use Rattle.region.specs.declared.row.Row.{Row}
 use Rattle.region.specs.Labels.{unused}
 use Rattle.region.specs.Pieces.{laid_pieces}
 use Rattle.region.specs.Rows.{blank, laid}
@@ -14,17 +10,15 @@ use Rattle.region_text.specs.declared.fault.Refusal.{Refusal as TextRefusal}
 use Rattle.region_text.specs.Schedules.{Schedule, read_schedule}
 use Rattle.region_text.specs.Sources.{Source, read_source}
 use Rattle.region_text.proofs.Fits.{SourceFits, ScheduleFits, source_fits, schedule_fits}
-use Rattle.validator.specs.declared.verdict.Verdict.{Verdict}
-use Rattle.shelf.specs.declared.refusal.Refusal.{Refusal}
 use Rattle.shelf.specs.declared.refusal.Number.TheVariants as number
 use Rattle.shelf.specs.Calls.{region_of}
 use Rattle.shelf.specs.Refusals.{without_place}
-use Rattle.shelf.specs.Store.{KeptRegion, Store, empty_region, rows_of_region, labels_of_region, written}
+use Rattle.shelf.specs.Store.{KeptRegion, empty_region, rows_of_region, labels_of_region, written}
 use Rattle.shelf.proofs.Granting.{same_store}
 use Rattle.replay.specs.Requests as call
 use Rattle.replay.specs.Requests.{Request}
 use Rattle.replay.specs.Events.{Event, counts}
-use Rattle.replay.specs.Held.{Held, nothing, said, said_for, held_after, held}
+use Rattle.replay.specs.Held.{Held, said, said_for, held_after, held}
 use Rattle.replay.specs.Stored.{source_part, schedule_part, label_part, rows_part, record_of, in_order, stored}
 use Rattle.replay.proofs.Blocks.{in_order_same, length_in_order, part_in_order, written_in_order, written_within, getD_in_order, set_in_order}
 use Rattle.replay.proofs.ReadBack.{length_laid, length_pieces}

@@ -1,5 +1,5 @@
 -- Parts of equal width, one behind the other.
-use Rattle.std.proofs.Common.{◌≡◌, ℕ, zero, suc, ◌+◌, ◌-◌, ◌*◌, ◌<◌, ◌≤◌, Bool, true, false, List, [], ◌∷◌, ◌++◌, length, get_or, take, drop, set, sym, refl, ap, ◌∙◌, subst, ap₂, ⊎_elim, append_assoc, eq-or-lt_of_le, mul-le-mul_left, one-mul, mul-zero, mul-suc, add-one, arith, length-append, length-drop, length-take, length-take-le, take_all, drop-drop, take_at, take-add, drop_at}
+use Rattle.std.proofs.Common.{◌≡◌, ℕ, zero, suc, ◌+◌, ◌*◌, ◌<◌, ◌≤◌, List, [], ◌∷◌, ◌++◌, length, get_or, take, drop, set, sym, refl, ap, ◌∙◌, subst, ap₂, ⊎_elim, append_assoc, eq-or-lt_of_le, mul-le-mul_left, one-mul, mul-zero, mul-suc, arith, length-append, length-drop, length-take-le, take_all, take_at, take-add, drop_at}
 use lib.Seq.{take-append-le, drop-append-le}
 use Rattle.std.proofs.lemmas.List.{append-nil, set_split, get_or_at, get_or_append_left, drop_all}
 use Rattle.shelf.specs.Store.{part, written}

@@ -1,7 +1,6 @@
 -- What a region holds after a list of calls, told by the calls' arguments and by which of them were granted.
 use Rattle.std.specs.Prelude.{◌≡◌, ℕ, Bool, false, cond, ◌&&◌, List, [], ◌∷◌, Some, None, Ok, Err, Option, Result}
 use Rattle.domain.specs.Meaning.{Meaning}
-use Rattle.region.specs.declared.label.LabelRow.{LabelRow}
 use Rattle.region.specs.Labels.{unused}
 use Rattle.region.specs.Rows.{laid}
 use Rattle.region_text.specs.Schedules.{Schedule, read_schedule}

@@ -22,7 +22,7 @@ fn check_lent<D: Domain>(
     region: usize,
     lent: usize,
 ) -> Result<Verdict, Refusal>
-    ensures answer { let st = store shelf.old rows.now labels.now in result ≡ check_answer meaning st region (min lent (length terms.old)) }
+    ensures answer { let st = store shelf.old rows.now labels.now in result ≡ check_answer D.meaning st region (min lent (length terms.old)) }
     ensures after { let st = store shelf.old rows.now labels.now in store shelf.new rows.now labels.now ≡ settled st (check_put st region) result }
     ensures room { length terms.new ≡ length terms.old }
 {
@@ -38,8 +38,8 @@ pub(crate) fn make<D: Domain>(
     terms: &mut [TermRow],
     call: Call,
 ) -> Answer
-    ensures answer { let st = store shelf.old rows.old labels.old in result ≡ answer_to meaning (length terms.old) st (asked call.entry) }
-    ensures after { let st = store shelf.old rows.old labels.old in store shelf.new rows.new labels.new ≡ store_after meaning (length terms.old) st (asked call.entry) }
+    ensures answer { let st = store shelf.old rows.old labels.old in result ≡ answer_to D.meaning (length terms.old) st (asked call.entry) }
+    ensures after { let st = store shelf.old rows.old labels.old in store shelf.new rows.new labels.new ≡ store_after D.meaning (length terms.old) st (asked call.entry) }
     ensures room { length terms.new ≡ length terms.old }
 {
     match call {
@@ -67,7 +67,7 @@ pub(crate) fn make_all<D: Domain>(
     answers: &mut [Answer],
 )
     requires { length calls.now ≤ length answers.old }
-    ensures kept { let st = store shelf.old rows.old labels.old in let st' = store shelf.new rows.new labels.new in ((n : ℕ) → Kept meaning (length terms.old) n st [] → Kept meaning (length terms.old) n st' (history [] calls.now (take (length calls.now) answers.new))) }
+    ensures kept { let st = store shelf.old rows.old labels.old in let st' = store shelf.new rows.new labels.new in ((n : ℕ) → Kept D.meaning (length terms.old) n st [] → Kept D.meaning (length terms.old) n st' (history [] calls.now (take (length calls.now) answers.new))) }
     ensures beyond { drop (length calls.now) answers.new ≡ drop (length calls.now) answers.old }
     ensures room { length terms.new ≡ length terms.old }
 {
