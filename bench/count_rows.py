@@ -1,14 +1,15 @@
 #!/usr/bin/env python3
-"""Replays the walks of a pair on plain dictionaries, and counts what the table of terms does in each entry.
+"""Replays the walks of a pair on plain dictionaries, and counts what a table of terms with a hash index would do in each entry.
 
     bench/count_rows.py SOURCE SCHEDULE
 
 Prints the rows that were numbered, put in, and compared, and the longest search; the last line is for all entries.
+The table of the crate numbering has no such index yet: docs/meant/hash-index.patch has the one that is counted here.
 The domain is that of wrapping words, and the texts are taken to be right.
 """
 import sys
 
-WEIGHTS = (67, 29, 5, 113)  # as in crates/validator/specs/TermRows.antt
+WEIGHTS = (67, 29, 5, 113)  # as in docs/meant/hash-index.patch
 COMMUTING = {0, 2, 5, 6, 7}  # add, mul, eq, and, or
 
 

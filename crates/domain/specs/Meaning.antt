@@ -3,7 +3,7 @@ use Rattle.std.specs.Prelude.{◌≡◌, ℕ, Bool, true, false, ◌≢◌, None
 use Rattle.domain.specs.declared.op.Op.{Op}
 use Rattle.domain.specs.declared.slot.Slot.{Slot}
 
--- The six functions of a domain whose words are W; may-trap has a second part, for addresses. None is a trap.
+-- The six functions of a domain whose words are W; may_trap has a second part, for addresses. None is a trap.
 pub record Meaning (W : Type 0) : Type 0 where
   -- an operation on two words
   pub apply : Op → W → W → Option W

@@ -9,8 +9,8 @@ use super::Shelf;
 use region::{LabelRow, MAIN_ROWS, REGION_ROWS, Row, SCHEDULE_ROWS, Side};
 
 impl Shelf {
-    /// HAND-OUT: the schedule of a region that has passed, as that very part of the lent rows: its main line in the
-    /// first 96 of them, the pieces of its exits and joins in the 192 behind them, and blank rows elsewhere.
+    /// HAND-OUT: where the schedule of a region has passed, what lies in the region's rows 96 to 383, row by row. Those
+    /// are the rows of a schedule: the main line's 96 and the 192 of the pieces behind them.
     pub fn hand_out<'a>(
         &self,
         rows: &'a [Row],
