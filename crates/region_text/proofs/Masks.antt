@@ -1,10 +1,7 @@
--- Laws of `mask_field`.
-use Rattle.std.proofs.Common.{◌≡◌, ℕ, zero, suc, ◌+◌, ◌*◌, ◌<◌, ◌≤◌, List, length, get_or, drop, Some, None, Ok, Err, add-one, arith, lit≤}
+-- Laws of `hex`.
+use Rattle.std.proofs.Common.{◌≡◌, ℕ, zero, suc, ◌+◌, ◌*◌, ◌<◌, ◌≤◌, List, length, get_or, drop, Some, None, add-one, arith, lit≤}
 use Rattle.std.proofs.lemmas.List.{drop_more, drop_all}
-use Rattle.std.proofs.lemmas.Bool.{eq-eqb}
-use Rattle.region_text.specs.declared.fault.Fault.TheVariants.{Malformed}
-use Rattle.region_text.specs.declared.fault.Spot.{Spot}
-use Rattle.region_text.specs.Fields.{hex_digit, hex, mask_field}
+use Rattle.region_text.specs.Fields.{hex_digit, hex}
 
 -- one digit of the loop
 module _ (n : ℕ) (xs : List ℕ) (i : ℕ) where
@@ -29,8 +26,5 @@ room_le (suc (suc zero)) h = lit≤ tt
 room_le (suc (suc (suc zero))) h = lit≤ tt
 room_le (suc (suc (suc (suc i)))) h = absurd (omega arith)
 
-pub whole : (xs : List ℕ) (s : Spot) (n i : ℕ) → length xs ≡ 4 → length xs ≤ i → hex n (drop i xs) ≡ hex 0 xs → Ok n ≡ mask_field xs s
-whole xs s n i l h e = let f : Some n ≡ hex 0 xs = rw (drop_all i xs h) at e in rw (eq-eqb (length xs) 4 l, ← f)
-
-pub spoilt : (xs : List ℕ) (s : Spot) → length xs ≡ 4 → None ≡ hex 0 xs → Err (record { fault = Malformed; spot = s }) ≡ mask_field xs s
-spoilt xs s l e = rw (eq-eqb (length xs) 4 l, ← e)
+pub ends : (n : ℕ) (xs : List ℕ) (i : ℕ) → length xs ≤ i → hex n (drop i xs) ≡ Some n
+ends n xs i h = rw (drop_all i xs h)

@@ -10,6 +10,6 @@ pub mod Sources
 pub mod Schedules
 pub mod Drafts
 pub mod Scanning
-pub mod Places
+pub mod Lines
 pub mod Readers
 pub mod NameLaws

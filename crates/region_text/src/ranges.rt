@@ -13,11 +13,7 @@ impl Ranged for Register {
     ghost bounded = { Prim.search rules };
 
     fn from_number(n: u16) -> Option<Register> {
-        if n <= u8::MAX as u16 {
-            Register::new(n as u8)
-        } else {
-            None
-        }
+        Register::new(u8::try_from(n).ok()?)
     }
 }
 
@@ -27,11 +23,7 @@ impl Ranged for Bank {
     ghost bounded = { Prim.search rules };
 
     fn from_number(n: u16) -> Option<Bank> {
-        if n <= u8::MAX as u16 {
-            Bank::new(n as u8)
-        } else {
-            None
-        }
+        Bank::new(u8::try_from(n).ok()?)
     }
 }
 
