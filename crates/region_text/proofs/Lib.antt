@@ -1,7 +1,5 @@
 pub mod Splits
 pub mod Digits
-pub mod Masks
 pub mod Lookups
 pub mod Laying
-pub mod Numbers
 pub mod Fits

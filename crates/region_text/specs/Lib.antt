@@ -2,6 +2,7 @@ pub mod Faults
 pub mod Texts
 pub mod Fields
 pub mod Numbers
+pub mod Bounds
 pub mod Letters
 pub mod Names
 pub mod Records
@@ -12,4 +13,3 @@ pub mod Drafts
 pub mod Scanning
 pub mod Lines
 pub mod Readers
-pub mod NameLaws

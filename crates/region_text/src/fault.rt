@@ -95,7 +95,7 @@ impl From<FieldFault> for LineFault {
 }
 
 /// Why a text is not taken: a line or a field that does not apply is 0.
-#[derive(Clone, Copy)]
+#[derive(Clone, Copy, PartialEq, Eq)]
 pub struct Refusal {
     pub fault: Fault,
     pub line: usize,

@@ -22,6 +22,7 @@ pub(crate) trait Ranged: Sized {
 }
 
 /// A decimal number without leading zeros, or 65536 where it is larger.
+#[tactic(auto, using(crate::proofs::Digits::more))]
 fn read_decimal(field: &[u8]) -> Option<u32>
     ensures { result ≡ capped (decimal field.now) }
 {

@@ -2,7 +2,6 @@
 ghost use Rattle.std.specs.Prelude.{◌≡◌, List};
 ghost use Rattle.numbering.specs.Rows.{found};
 ghost use Rattle.region.specs.declared.label.LabelRow.{LabelRow as RowOfLabel};
-ghost use Rattle.region.specs.Numbers.{label_at};
 ghost use Rattle.region_text.specs.Names.{same_label};
 ghost use Rattle.region_text.specs.Lines.{parted};
 ghost use Rattle.region_text.specs.Records.{named, spot_at, label_of, label_in, new_name_in, label_row, exit_row};
@@ -11,7 +10,6 @@ ghost use Rattle.region_text.specs.declared.fault.Fault.TheVariants.{Label as Un
 
 use super::cursor::Line;
 use super::fault::{Fault, FieldFault};
-use super::kinds::same_name;
 use region::{LabelNumber, LabelRow, Name, Row};
 
 /// Labels that a record may name.
@@ -28,25 +26,8 @@ impl Labels for &[LabelRow] {
     ghost rows = { λ s. s.now };
 
     fn find(&self, label: Name) -> Option<usize> {
-        self.iter().position(|row| is_named(*row, label))
+        self.iter().position(|row| row.name == Some(label))
     }
-}
-
-/// Whether a label row has that name.
-fn is_named(row: LabelRow, label: Name) -> bool
-    ensures { result ≡ same_label row (named label 0) }
-{
-    match row.name {
-        Some(name) => same_name(name, label),
-        None => false,
-    }
-}
-
-/// The label of a number.
-fn label_number(place: usize) -> Option<LabelNumber>
-    ensures { result ≡ label_at place }
-{
-    LabelNumber::new(u8::try_from(place).ok()?)
 }
 
 impl<'a> Line<'a> {
@@ -55,7 +36,7 @@ impl<'a> Line<'a> {
         ensures { result ≡ or_fault Undeclared (spot_at self.entry.number index) (label_of place) }
     {
         place
-            .and_then(label_number)
+            .and_then(LabelNumber::new)
             .ok_or(Fault::Label.at(self.spot(index)))
     }
 

@@ -41,11 +41,9 @@ impl<'a> SourceBody<'a> {
     fn keep(&mut self, row: Result<Row, FieldFault>, number: usize) -> Result<(), LineFault>
         ensures { after result (reading self.new) ≡ keeping (reading self.old) number row }
     {
-        if self.rows.push(row?) {
-            Ok(())
-        } else {
-            Err(Fault::TooMany.in_line(number))
-        }
+        self.rows
+            .push(row?)
+            .map_err(|_| Fault::TooMany.in_line(number))
     }
 
     /// The end.

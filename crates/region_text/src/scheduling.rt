@@ -19,10 +19,10 @@ impl<'a> Line<'a> {
         ensures { result ≡ piece_in (parted self.entry) first count }
     {
         let number: u16 = self.number_at(1)?;
-        if number < 1 || number > count as u16 {
+        if number < 1 || number > u16::from(count) {
             return Err(Fault::OutOfRange.at(self.spot(1)));
         }
-        Ok(first as usize + (number as usize - 1))
+        Ok(usize::from(first) + usize::from(number - 1))
     }
 }
 
@@ -52,15 +52,11 @@ impl<'a> ScheduleBody<'a> {
         ensures { after result (scheduling self.new) ≡ keeping (scheduling self.old) number row }
     {
         let row = row?;
-        let taken = match self.at {
+        let pushed = match self.at {
             Some(piece) => self.pieces.push(piece, row),
             None => self.rows.push(row),
         };
-        if taken {
-            Ok(())
-        } else {
-            Err(Fault::TooMany.in_line(number))
-        }
+        pushed.map_err(|_| Fault::TooMany.in_line(number))
     }
 
     /// The end.

@@ -1,6 +1,6 @@
 // How a text is taken line by line, a source and a schedule alike.
 ghost use Rattle.std.specs.Prelude.{◌≡◌, Bool, Option, Result};
-ghost use Rattle.region.specs.declared.numbers.LabelNumber.{LabelNumber as EndLabel};
+ghost use Rattle.region.specs.Numbers.{LabelNumber as EndLabel};
 ghost use Rattle.region_text.specs.declared.letter.Letter.{Letter as RecordLetter};
 ghost use Rattle.region_text.specs.declared.fault.LineFault.{LineFault as FaultOfLine};
 ghost use Rattle.region_text.specs.Texts.{LineFields, lines as text_lines};
