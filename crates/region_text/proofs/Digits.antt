@@ -1,8 +1,11 @@
 -- A decimal number may be cut at 65536 on the way.
-use Rattle.std.proofs.Common.{◌≡◌, ℕ, ◌+◌, ◌-◌, ◌*◌, ◌<◌, ◌≤◌, min, true, false, cond, List, [], ◌∷◌, length, get_or, drop, None, Some, sym, refl, ap, ◌∙◌, inl, inr, arith}
+use Rattle.std.proofs.Common.{◌≡◌, ℕ, ◌+◌, ◌-◌, ◌*◌, ◌<◌, ◌≤◌, min, true, false, cond, List, [], ◌∷◌, length, get_or, drop, None, Some, refl, ap, inl, inr, arith}
 use Rattle.std.proofs.lemmas.List.{drop_more}
 use Rattle.std.proofs.lemmas.Bool.{cases_lt}
-use Rattle.std.specs.Char.{is_ascii_digit}
+use Rattle.std.proofs.lemmas.Bool.Decides.{nat_tests}
+use Rattle.std.specs.Char.{is_ascii_digit, digit_value}
+use Rattle.std.proofs.lemmas.Str.{digit_value_digit}
+use Rattle.std.proofs.lemmas.Str.Parse.{digit_from_value}
 use Rattle.region_text.specs.Fields.{digits}
 use Rattle.region_text.specs.Scanning.{capped}
 
@@ -23,5 +26,10 @@ cut bs n =
     ]
 
 -- one digit more
-pub more : (n : ℕ) (xs : List ℕ) (i : ℕ) → i < length xs → is_ascii_digit (get_or xs i 0) ≡ true → capped (digits n (drop i xs)) ≡ capped (digits (min (n * 10 + (get_or xs i 0 - 48)) 65536) (drop (i + 1) xs))
-more n xs i h e = (rw (drop_more xs i 0 h, e)) ∙ sym (cut (drop (i + 1) xs) (n * 10 + (get_or xs i 0 - 48)))
+pub more : (n : ℕ) (xs : List ℕ) (i d : ℕ) → i < length xs → digit_value (get_or xs i 0) < 10 → d ≡ digit_value (get_or xs i 0) → capped (digits (min (n * 10 + d) 65536) (drop (i + 1) xs)) ≡ capped (digits n (drop i xs))
+more n xs i d h v e =
+    let b = get_or xs i 0 in
+    let range = digit_from_value b v in
+    let test : is_ascii_digit b ≡ true = grind (arith, nat_tests, range) in
+    let value : n * 10 + (b - 48) ≡ n * 10 + d = omega (arith, digit_value_digit b range) in
+    rw (drop_more xs i 0 h, test, value) (cut (drop (i + 1) xs) (n * 10 + d))

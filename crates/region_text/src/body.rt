@@ -20,7 +20,8 @@ pub(crate) struct SourceBody<'a> {
     pub(crate) end: Option<LabelNumber>,
 }
 
-/// What has been read of a schedule of the region that has these label rows; `at` is the piece that was headed last.
+/// What has been read of a schedule of the region that has these label rows; `at` is the piece that was headed last, by its number among the twelve,
+/// since the numbers rise as the heads do.
 #[derive(Clone, Copy)]
 pub(crate) struct ScheduleBody<'a> {
     pub(crate) labels: &'a [LabelRow],

@@ -9,6 +9,7 @@ use super::fault::{Fault, FieldFault, Spot};
 const BEYOND: u32 = 65536;
 
 /// What some of the numbers up to 65535 stand for.
+/// A trait of its own and not `TryFrom<u16>`, which may be written for a type in that type's own crate alone.
 pub(crate) trait Ranged: Sized {
     /// What a number stands for, if anything.
     ghost make: { ℕ → Option Self };
@@ -31,10 +32,8 @@ fn read_decimal(field: &[u8]) -> Option<u32>
     }
     let mut n: u32 = 0;
     for b in field {
-        if !b.is_ascii_digit() {
-            return None;
-        }
-        n = (n * 10 + (*b - b'0') as u32).min(BEYOND);
+        let digit = char::from(*b).to_digit(10)?;
+        n = (n * 10 + digit).min(BEYOND);
     }
     Some(n)
 }

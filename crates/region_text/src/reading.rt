@@ -31,10 +31,10 @@ impl<'a> SourceBody<'a> {
         ensures { after result (reading self.new) ≡ declaring (reading self.old) line.entry.number (label_row (parted line.entry) (reading self.old).labels) }
     {
         let row = line.label_row(&self.labels)?;
-        match self.labels.number(row) {
-            Some(_) => Ok(()),
-            None => Err(Fault::TooMany.in_line(line.number)),
-        }
+        self.labels
+            .number(row)
+            .map(|_| ())
+            .ok_or(Fault::TooMany.in_line(line.number))
     }
 
     /// One more row, unless a size is passed.
@@ -75,6 +75,8 @@ impl<'a> Body for SourceBody<'a> {
         }
     }
 
+    // A schedule has a table of letters like this one. Each stands alone, as the definition that it follows does: seven letters mean the same
+    // in both, and a table for these apart would leave a reader with two tables to look a letter up in.
     fn take_record(&mut self, letter: Letter, line: Line) -> Result<(), LineFault> {
         let number = line.number;
         match letter {
