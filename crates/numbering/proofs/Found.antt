@@ -1,78 +1,56 @@
 -- What a found number means, over plain lists.
-use Rattle.std.proofs.Common.{◌≡◌, ℕ, zero, suc, ◌+◌, ◌<◌, ◌≤◌, Bool, true, false, cond, ◌⊎◌, List, [], ◌∷◌, ◌++◌, length, get_or, Some, None, Option, sym, refl, ap, ◌∙◌, inl, inr, suc-le-suc, le_of_suc-le-suc, not-suc-le-zero, arith}
-use Rattle.std.proofs.lemmas.Bool.{both_ways, cases_lt}
+use Rattle.std.proofs.Common.{◌≡◌, ℕ, ◌+◌, ◌<◌, ◌≤◌, Bool, true, false, cond, ltb, ◌⊎◌, List, [], ◌∷◌, ◌++◌, length, get_or, Some, None, Option, sym, refl, inl, inr, not-suc-le-zero, arith, length-append}
+use Rattle.std.specs.List.{position_or_len}
+use Rattle.std.proofs.lemmas.Bool.{both_ways, cases_lt, lt-ltb, ltb-false}
 use Rattle.std.proofs.lemmas.List.{get_or_append_left, get_or_push, length_push}
-use Rattle.numbering.specs.Rows.{found_from, found, Distinct, Equivalence, Exactly}
+use Rattle.std.proofs.lemmas.List.Quantifiers.{position-Some}
+use Rattle.std.proofs.lemmas.List.Sums.{position_or_len_is, fails_before_first}
+use Rattle.numbering.specs.Rows.{found, Distinct, Equivalence, Exactly}
 
 -- no number is not some number
 pub none_is_some : {X : Type 0} {P : Type 0} (x : X) → ◌≡◌ {A = Option X} None (Some x) → P
-none_is_some x e = absurd (let z : ◌≡◌ {A = ℕ} 0 1 = cc in omega arith)
+none_is_some x e = cc
 
 -- no rows are distinct rows
 pub distinct_none : {R : Type 0} (eq : R → R → Bool) → Distinct eq []
 distinct_none eq i j d li lj t = absurd (not-suc-le-zero li)
 
 module _ {R : Type 0} (eq : R → R → Bool) (row : R) where
-  -- the number k of a row, where the first of the rows has the number n: the row there equals it
-  abbrev Hit : ℕ → List R → ℕ → R → Type 0
-  Hit n xs k d = (j : ℕ) × (k ≡ n + j) × (j < length xs) × (eq (get_or xs j d) row ≡ true)
-
-  hit : (n : ℕ) (xs : List R) (k : ℕ) (d : R) → found_from eq n xs row ≡ Some k → Hit n xs k d
-  hit n [] k d e = none_is_some k e
-  hit n (x ∷ xs) k d e = go (eq x row) refl (hit (n + 1) xs k d)
-    where
-      go : (b : Bool) → eq x row ≡ b → (found_from eq (n + 1) xs row ≡ Some k → Hit (n + 1) xs k d) → Hit n (x ∷ xs) k d
-      go true t ih = let e' : Some n ≡ Some k = rw t at e in let k_is : n ≡ k = cc in (0, omega arith, omega arith, t)
-      go false t ih =
-          let e' : found_from eq (n + 1) xs row ≡ Some k = rw t at e in
-          let h = ih e' in (suc h.0, omega (arith, h.1), suc-le-suc h.2, h.3)
-
-  unhit : (n : ℕ) (xs : List R) (d : R) → found_from eq n xs row ≡ None → (i : ℕ) → i < length xs → eq (get_or xs i d) row ≡ false
-  unhit n [] d e i l = absurd (not-suc-le-zero l)
-  unhit n (x ∷ xs) d e i l = go (eq x row) refl (unhit (n + 1) xs d) i l
-    where
-      go : (b : Bool) → eq x row ≡ b → (found_from eq (n + 1) xs row ≡ None → (i : ℕ) → i < length xs → eq (get_or xs i d) row ≡ false)
-          → (i : ℕ) → i < length (x ∷ xs) → eq (get_or (x ∷ xs) i d) row ≡ false
-      go true t ih i l = none_is_some n (sym (rw t at e))
-      go false t ih zero l = t
-      go false t ih (suc i) l = ih (rw t at e) i (le_of_suc-le-suc l)
-
   -- a found number is below the length, and its row equals the row
   pub found_is : (xs : List R) (k : ℕ) (d : R) → found eq xs row ≡ Some k → (k < length xs) × (eq (get_or xs k d) row ≡ true)
-  found_is xs k d e =
-      let h = hit 0 xs k d e in
-      let k_is : h.0 ≡ k = omega (arith, h.1) in
-      (omega (arith, h.2), let t = h.3 in rw k_is at t)
+  found_is xs k d e = let h = position-Some (λ x. eq x row) xs k d e in (h.0, h.1)
 
   -- where no number is found, no row equals the row
   pub none_is : (xs : List R) (d : R) → found eq xs row ≡ None → (i : ℕ) → i < length xs → eq (get_or xs i d) row ≡ false
-  none_is xs d e = unhit 0 xs d e
-
-  -- a number that was found is found however many rows are put behind
-  found_from_kept : (n : ℕ) (xs ys : List R) (k : ℕ) → found_from eq n xs row ≡ Some k → found_from eq n (xs ++ ys) row ≡ Some k
-  found_from_kept n [] ys k e = none_is_some k e
-  found_from_kept n (x ∷ xs) ys k e = go (eq x row) (found_from_kept (n + 1) xs ys k) e
+  none_is xs d e i l = fails_before_first (λ x. eq x row) xs i d (omega (arith, all_passed))
     where
-      go : (b : Bool) → (found_from eq (n + 1) xs row ≡ Some k → found_from eq (n + 1) (xs ++ ys) row ≡ Some k)
-          → cond b (Some n) (found_from eq (n + 1) xs row) ≡ Some k → cond b (Some n) (found_from eq (n + 1) (xs ++ ys) row) ≡ Some k
-      go true ih e = e
-      go false ih e = ih e
+      go : (b : Bool) → ltb (position_or_len (λ x. eq x row) xs) (length xs) ≡ b → cond b (Some (position_or_len (λ x. eq x row) xs)) None ≡ None → length xs ≤ position_or_len (λ x. eq x row) xs
+      go true t p = none_is_some _ (sym p)
+      go false t p = ltb-false _ _ t
 
+      all_passed : length xs ≤ position_or_len (λ x. eq x row) xs
+      all_passed = go (ltb (position_or_len (λ x. eq x row) xs) (length xs)) refl e
+
+  -- the first row that equals the row is found
+  first_found : (xs : List R) (k : ℕ) → k < length xs → ((j : ℕ) → j < k → eq (get_or xs j row) row ≡ false) → eq (get_or xs k row) row ≡ true → found eq xs row ≡ Some k
+  first_found xs k l before here =
+      let at : position_or_len (λ x. eq x row) xs ≡ k = position_or_len_is (λ x. eq x row) xs k row (omega arith) before (λ _. here) in
+      rw (at, lt-ltb k (length xs) l)
+
+  -- a number is found again where more rows stand behind
   pub found_kept : (xs ys : List R) (k : ℕ) → found eq xs row ≡ Some k → found eq (xs ++ ys) row ≡ Some k
-  found_kept xs ys k e = found_from_kept 0 xs ys k e
+  found_kept xs ys k e =
+      let h = position-Some (λ x. eq x row) xs k row e in
+      first_found (xs ++ ys) k (omega (arith, length-append xs ys, h.0))
+      (λ j l. rw (get_or_append_left xs ys row j (omega (arith, h.0))) (h.2 j l))
+      (rw (get_or_append_left xs ys row k h.0) h.1)
 
   -- a row that was not found, put behind, is found at the end
-  found_from_push : eq row row ≡ true → (n : ℕ) (xs : List R) → found_from eq n xs row ≡ None → found_from eq n (xs ++ row ∷ []) row ≡ Some (n + length xs)
-  found_from_push own n [] e = let z : n ≡ n + 0 = omega arith in rw own (ap (λ m. Some m) z)
-  found_from_push own n (x ∷ xs) e = go (eq x row) (found_from_push own (n + 1) xs) e
-    where
-      go : (b : Bool) → (found_from eq (n + 1) xs row ≡ None → found_from eq (n + 1) (xs ++ row ∷ []) row ≡ Some (n + 1 + length xs))
-          → cond b (Some n) (found_from eq (n + 1) xs row) ≡ None → cond b (Some n) (found_from eq (n + 1) (xs ++ row ∷ []) row) ≡ Some (n + suc (length xs))
-      go true ih e = none_is_some n (sym e)
-      go false ih e = let z : n + 1 + length xs ≡ n + suc (length xs) = omega arith in ih e ∙ ap (λ m. Some m) z
-
   pub found_push : eq row row ≡ true → (xs : List R) → found eq xs row ≡ None → found eq (xs ++ row ∷ []) row ≡ Some (length xs)
-  found_push own xs e = let z : 0 + length xs ≡ length xs = omega arith in found_from_push own 0 xs e ∙ ap (λ m. Some m) z
+  found_push own xs e =
+      first_found (xs ++ row ∷ []) (length xs) (omega (arith, length_push xs row))
+      (λ j l. rw (get_or_append_left xs (row ∷ []) row j l) (none_is xs row e j l))
+      (rw (get_or_push xs row row (length xs) refl) own)
 
 module _ {R : Type 0} (eq : R → R → Bool) (laws : Equivalence eq) where
   -- a row that was not found can be put behind distinct rows

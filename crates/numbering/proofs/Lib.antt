@@ -1,3 +1,2 @@
-mod Steps
 pub mod Found
 pub mod Numbered

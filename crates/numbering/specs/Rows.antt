@@ -1,5 +1,6 @@
 -- Rows and their numbers, over plain lists: `eq` tells whether two rows are equal, and a row's number is its place.
-use Rattle.std.specs.Prelude.{◌≡◌, ℕ, ◌+◌, ◌<◌, Bool, true, cond, List, [], ◌∷◌, ◌++◌, length, Some, None, Option, nat_lt, slice_index_or}
+use Rattle.std.specs.Prelude.{◌≡◌, ℕ, ◌<◌, Bool, true, cond, List, [], ◌∷◌, ◌++◌, length, Some, None, Option, nat_lt, slice_index_or}
+use Rattle.std.specs.List.{position}
 
 -- A test is an equivalence: each row equals itself, and equality goes both ways and from row to row.
 pub record Equivalence {R : Type 0} (eq : R → R → Bool) : Type 0 where
@@ -7,14 +8,9 @@ pub record Equivalence {R : Type 0} (eq : R → R → Bool) : Type 0 where
   pub symmetric : (x y : R) → eq x y ≡ true → eq y x ≡ true
   pub transitive : (x y z : R) → eq x y ≡ true → eq y z ≡ true → eq x z ≡ true
 
--- The number of the first of the rows that equals the row, where the first of them has the number n.
-abbrev pub found_from : {R : Type 0} → (R → R → Bool) → ℕ → List R → R → Option ℕ
-found_from eq n [] row = None
-found_from eq n (x ∷ xs) row = cond (eq x row) (Some n) (found_from eq (n + 1) xs row)
-
 -- The number of the first of the rows that equals the row: rows are numbered from 0.
 abbrev pub found : {R : Type 0} → (R → R → Bool) → List R → R → Option ℕ
-found eq xs row = found_from eq 0 xs row
+found eq xs row = position (λ x. eq x row) xs
 
 -- The number that was found; else, where n rows leave room for one more, the next number, n.
 abbrev pub or_next : Option ℕ → ℕ → ℕ → Option ℕ

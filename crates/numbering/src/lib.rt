@@ -26,6 +26,13 @@ impl<'a, R: Kind + Copy> Table<'a, R> {
         Table { rows, len: 0 }
     }
 
+    /// The rows that have a number, each at the place that is its number.
+    pub fn rows(&self) -> &[R]
+        ensures { result.now ≡ used self.now }
+    {
+        &self.rows[..self.len]
+    }
+
     /// How many rows have a number.
     pub fn len(&self) -> usize
         ensures { result ≡ length (used self.now) }
@@ -38,13 +45,7 @@ impl<'a, R: Kind + Copy> Table<'a, R> {
     pub fn find(&self, row: &R) -> Option<usize>
         ensures { result ≡ found R.equals (used self.now) row.now }
     {
-        let rows = &*self.rows;
-        for i in 0..self.len {
-            if rows[i].same(row) {
-                return Some(i);
-            }
-        }
-        None
+        self.rows().iter().position(|r| r.same(row))
     }
 
     /// The number of the row, which gets the next one where it had none; `None` where there is no room for it, and then nothing is altered.

@@ -15,15 +15,15 @@ use Rattle.region_text.specs.declared.fault.LineFault.TheVariants.{Field, Line}
 use Rattle.region_text.specs.declared.fault.Refusal.{Refusal}
 use Rattle.region_text.specs.declared.letter.Letter.{Letter}
 use Rattle.region_text.specs.declared.letter.Letter.TheVariants.{Declare, Operate, Literal, Load, Store, Exit, Join, End, ExitPiece, JoinPiece}
-use Rattle.region_text.specs.Faults.{refusal_of}
+use Rattle.region_text.specs.Faults.{refusal_of, unended}
 use Rattle.region_text.specs.Letters.{form}
 use Rattle.region_text.specs.Records.{label_row, label_in, operate_row, literal_row, load_row, store_row, exit_row, piece_in}
 use Rattle.region_text.specs.Schedules as schedules
 use Rattle.region_text.specs.Schedules.{Scheduling, Schedule, nothing_scheduled, schedule_of, read_schedule}
 use Rattle.region_text.specs.Sources as sources
 use Rattle.region_text.specs.Sources.{Reading, Source, nothing_read, source_of, read_source}
-use Rattle.region_text.specs.Taking.{placed, taken, or_unended, all_taken}
-use Rattle.region_text.specs.Texts.{TextLine, fields, lines}
+use Rattle.region_text.specs.Taking.{placed, taken, or_unended, all_taken, whole}
+use Rattle.region_text.specs.Texts.{TextLine, LineFields, fields, lines}
 
 -- no piece has more than sixteen rows
 abbrev pub Short : List (List Row) → Type 0
@@ -43,7 +43,7 @@ pub record ScheduleFits (x : Schedule) : Type 0 where
 
 -- a refusal says nothing
 no : {X E : Type 0} {P : Type 0} (e : E) (x : X) → Err e ≡ Ok x → P
-no e x p = absurd (let z : ◌≡◌ {A = ℕ} 0 1 = cc in omega arith)
+no e x p = cc
 
 -- what is granted under a test passed it
 granted : {X E : Type 0} (b : Bool) (x y : X) (e : E) → cond b (Ok x) (Err e) ≡ Ok y → (b ≡ true) × (x ≡ y)
@@ -54,35 +54,35 @@ fits_rows : (rs : List Row) → main_fits rs ≡ true → length rs ≤ 96
 fits_rows rs e = leb-true _ _ (and_parts _ _ (and_parts _ _ e).0).0
 
 -- what holds of nothing read and is kept by each line, holds of all that was read
-module _ {S X : Type 0} (take_line : S → ℕ → TextLine → Result S LineFault) (whole : S → ℕ → Result X Refusal) (P : S → Type 0) (Q : X → Type 0)
+module _ {S X : Type 0} (take_line : S → ℕ → TextLine → Result S LineFault) (end_of : S → Option LabelNumber) (k : S → LabelNumber → X) (P : S → Type 0) (Q : X → Type 0)
     (line : (s : S) (l : ℕ) (x : TextLine) (t : S) → take_line s l x ≡ Ok t → P s → P t)
-    (end : (s : S) (l : ℕ) (y : X) → whole s l ≡ Ok y → P s → Q y) where
-  pub all_fit : (xs : List TextLine) (s : S) (l : ℕ) (y : X) → all_taken take_line whole s l xs ≡ Ok y → P s → Q y
-  all_fit [] s l y e p = end s l y e p
+    (end : (s : S) (e : LabelNumber) → P s → Q (k s e)) where
+  finished : (l : ℕ) (s : S) (o : Option LabelNumber) (y : X) → whole k (or_unended l s o) ≡ Ok y → P s → Q y
+  finished l s None y e p = no (unended l) y e
+  finished l s (Some n) y e p = let z : k s n ≡ y = cc in subst Q z (end s n p)
+
+  pub all_fit : (xs : List TextLine) (s : S) (l : ℕ) (y : X) → whole k (all_taken take_line end_of s l xs) ≡ Ok y → P s → Q y
+  all_fit [] s l y e p = finished l s (end_of s) y e p
   all_fit (x ∷ xs) s l y e p = go (take_line s l x) refl e (λ t. all_fit xs t (l + 1) y)
     where
-      go : (r : Result S LineFault) → take_line s l x ≡ r → ◌≡◌ {A = Result X Refusal} (elim r [ Err f ↦ Err (refusal_of f) | Ok t ↦ all_taken take_line whole t (l + 1) xs ]) (Ok y)
-          → ((t : S) → all_taken take_line whole t (l + 1) xs ≡ Ok y → P t → Q y) → Q y
+      go : (r : Result S LineFault) → take_line s l x ≡ r → ◌≡◌ {A = Result X Refusal} (whole k (elim r [ Err f ↦ Err (refusal_of f) | Ok t ↦ all_taken take_line end_of t (l + 1) xs ])) (Ok y)
+          → ((t : S) → whole k (all_taken take_line end_of t (l + 1) xs) ≡ Ok y → P t → Q y) → Q y
       go (Err f) q d k = no (refusal_of f) y d
       go (Ok t) q d k = k t d (line s l x t q p)
 
 -- a line is taken only where its record is known and in its place
-module _ {S : Type 0} (in_place : Letter → S → Bool) (take_record : Letter → S → ℕ → List (List ℕ) → Result S LineFault) (P : S → Type 0)
-    (record_fits : (c : Letter) (s : S) (l : ℕ) (fs : List (List ℕ)) (t : S) → take_record c s l fs ≡ Ok t → P s → P t) where
+module _ {S : Type 0} (in_place : Letter → S → Bool) (take_record : Letter → S → LineFields → Result S LineFault) (P : S → Type 0)
+    (record_fits : (c : Letter) (s : S) (x : LineFields) (t : S) → take_record c s x ≡ Ok t → P s → P t) where
+  in_its_place : (c : Letter) (s : S) (x : LineFields) (t : S) (b : Bool) → cond b (take_record c s x) (Err (Line OutOfPlace x.number)) ≡ Ok t → P s → P t
+  in_its_place c s x t true d p = record_fits c s x t d p
+  in_its_place c s x t false d p = no (Line OutOfPlace x.number) t d
+
+  placed_fits : (s : S) (x : LineFields) (t : S) (c : Option Letter) → placed in_place take_record s x c ≡ Ok t → P s → P t
+  placed_fits s x t None e p = no (Line Malformed x.number) t e
+  placed_fits s x t (Some c) e p = in_its_place c s x t (in_place c s) e p
+
   pub line_fits : (s : S) (l : ℕ) (x : TextLine) (t : S) → taken in_place take_record s l x ≡ Ok t → P s → P t
-  line_fits s l x t = go (form x)
-    where
-      in_its_place : (c : Letter) (b : Bool) → cond b (take_record c s l (fields x.bytes)) (Err (Line OutOfPlace l)) ≡ Ok t → P s → P t
-      in_its_place c true d p = record_fits c s l (fields x.bytes) t d p
-      in_its_place c false d p = no (Line OutOfPlace l) t d
-
-      go : (c : Option Letter) → placed in_place take_record s l (fields x.bytes) c ≡ Ok t → P s → P t
-      go None e p = no (Line Malformed l) t e
-      go (Some c) e p = in_its_place c (in_place c s) e p
-
-unended_fits : {X : Type 0} (l : ℕ) (k : LabelNumber → X) (o : Option LabelNumber) (y : X) → or_unended l k o ≡ Ok y → (e : LabelNumber) × (k e ≡ y)
-unended_fits l k None y p = no _ y p
-unended_fits l k (Some e) y p = (e, cc)
+  line_fits s l x t = placed_fits s (record { number = l; fields = fields x.bytes }) t (form x)
 
 -- sources
 pub record ReadingFits (r : Reading) : Type 0 where
@@ -104,27 +104,27 @@ source_keep_fits r l (Ok x) t e p =
 source_finish_fits : (r : Reading) (o : Result LabelNumber FieldFault) (t : Reading) → sources.finish r o ≡ Ok t → ReadingFits r → ReadingFits t
 source_finish_fits r (Err f) t e p = no (Field f) t e
 source_finish_fits r (Ok x) t e p =
-    let q : record { labels = r.labels; rows = r.rows; end = Some x } ≡ t = cc in
+    let q : record r { end = Some x } ≡ t = cc in
     subst ReadingFits q (record { labels = p.labels; rows = p.rows })
 
-source_record_fits : (c : Letter) (r : Reading) (l : ℕ) (fs : List (List ℕ)) (t : Reading) → sources.take_record c r l fs ≡ Ok t → ReadingFits r → ReadingFits t
-source_record_fits Declare r l fs t e p = declare_fits r l (label_row l fs r.labels) t e p
-source_record_fits Operate r l fs t e p = source_keep_fits r l (operate_row l fs) t e p
-source_record_fits Literal r l fs t e p = source_keep_fits r l (literal_row l fs) t e p
-source_record_fits Load r l fs t e p = source_keep_fits r l (load_row l fs) t e p
-source_record_fits Store r l fs t e p = source_keep_fits r l (store_row l fs) t e p
-source_record_fits Exit r l fs t e p = source_keep_fits r l (exit_row l fs r.labels) t e p
-source_record_fits Join r l fs t e p = source_keep_fits r l (Ok row.Join) t e p
-source_record_fits End r l fs t e p = source_finish_fits r (label_in l fs r.labels 1) t e p
-source_record_fits ExitPiece r l fs t e p = no (Line OutOfPlace l) t e
-source_record_fits JoinPiece r l fs t e p = no (Line OutOfPlace l) t e
+source_record_fits : (c : Letter) (r : Reading) (x : LineFields) (t : Reading) → sources.take_record c r x ≡ Ok t → ReadingFits r → ReadingFits t
+source_record_fits Declare r x t e p = declare_fits r x.number (label_row x r.labels) t e p
+source_record_fits Operate r x t e p = source_keep_fits r x.number (operate_row x) t e p
+source_record_fits Literal r x t e p = source_keep_fits r x.number (literal_row x) t e p
+source_record_fits Load r x t e p = source_keep_fits r x.number (load_row x) t e p
+source_record_fits Store r x t e p = source_keep_fits r x.number (store_row x) t e p
+source_record_fits Exit r x t e p = source_keep_fits r x.number (exit_row x r.labels) t e p
+source_record_fits Join r x t e p = source_keep_fits r x.number (Ok row.Join) t e p
+source_record_fits End r x t e p = source_finish_fits r (label_in x r.labels 1) t e p
+source_record_fits ExitPiece r x t e p = no (Line OutOfPlace x.number) t e
+source_record_fits JoinPiece r x t e p = no (Line OutOfPlace x.number) t e
 
 -- what a source's text says fits its places
 pub source_fits : (bs : List ℕ) (s : Source) → read_source bs ≡ Ok s → SourceFits s
 source_fits bs s e =
-    all_fit sources.take_line (λ r l. or_unended l (source_of r) r.end) ReadingFits SourceFits
+    all_fit sources.take_line sources.end_of source_of ReadingFits SourceFits
     (line_fits sources.in_place sources.take_record ReadingFits source_record_fits)
-    (λ r l y q p. let u = unended_fits l (source_of r) r.end y q in subst SourceFits u.1 (record { labels = p.labels; rows = p.rows }))
+    (λ r n p. record { labels = p.labels; rows = p.rows })
     (lines bs) nothing_read 1 s e (record { labels = zero-le; rows = zero-le })
 
 -- schedules
@@ -164,7 +164,7 @@ schedule_keep_fits s l (Ok x) t e p = add_fits s l x s.at t e p
 schedule_finish_fits : (s : Scheduling) (o : Result LabelNumber FieldFault) (t : Scheduling) → schedules.finish s o ≡ Ok t → SchedulingFits s → SchedulingFits t
 schedule_finish_fits s (Err f) t e p = no (Field f) t e
 schedule_finish_fits s (Ok x) t e p =
-    let q : record { rows = s.rows; end = Some x; pieces = s.pieces; at = s.at } ≡ t = cc in
+    let q : record s { end = Some x } ≡ t = cc in
     subst SchedulingFits q (record { rows = p.rows; short = p.short; twelve = p.twelve })
 
 head_fits : (s : Scheduling) (l : ℕ) (o : Result ℕ FieldFault) (t : Scheduling) → schedules.head s l o ≡ Ok t → SchedulingFits s → SchedulingFits t
@@ -173,35 +173,33 @@ head_fits s l (Ok x) t e p =
     let g = granted (schedules.rises s.at x) _ t _ e in
     subst SchedulingFits g.1 (record { rows = p.rows; short = p.short; twelve = p.twelve })
 
-module _ (labels : List LabelRow) where
-  schedule_record_fits : (c : Letter) (s : Scheduling) (l : ℕ) (fs : List (List ℕ)) (t : Scheduling) → schedules.take_record labels c s l fs ≡ Ok t → SchedulingFits s → SchedulingFits t
-  schedule_record_fits Declare s l fs t e p = no (Line OutOfPlace l) t e
-  schedule_record_fits Operate s l fs t e p = schedule_keep_fits s l (operate_row l fs) t e p
-  schedule_record_fits Literal s l fs t e p = schedule_keep_fits s l (literal_row l fs) t e p
-  schedule_record_fits Load s l fs t e p = schedule_keep_fits s l (load_row l fs) t e p
-  schedule_record_fits Store s l fs t e p = schedule_keep_fits s l (store_row l fs) t e p
-  schedule_record_fits Exit s l fs t e p = schedule_keep_fits s l (exit_row l fs labels) t e p
-  schedule_record_fits Join s l fs t e p = schedule_keep_fits s l (Ok row.Join) t e p
-  schedule_record_fits End s l fs t e p = schedule_finish_fits s (label_in l fs labels 1) t e p
-  schedule_record_fits ExitPiece s l fs t e p = head_fits s l (piece_in l fs 0 (exits_in s.rows)) t e p
-  schedule_record_fits JoinPiece s l fs t e p = head_fits s l (piece_in l fs 8 (joins_in s.rows)) t e p
+schedule_record_fits : (c : Letter) (s : Scheduling) (x : LineFields) (t : Scheduling) → schedules.take_record c s x ≡ Ok t → SchedulingFits s → SchedulingFits t
+schedule_record_fits Declare s x t e p = no (Line OutOfPlace x.number) t e
+schedule_record_fits Operate s x t e p = schedule_keep_fits s x.number (operate_row x) t e p
+schedule_record_fits Literal s x t e p = schedule_keep_fits s x.number (literal_row x) t e p
+schedule_record_fits Load s x t e p = schedule_keep_fits s x.number (load_row x) t e p
+schedule_record_fits Store s x t e p = schedule_keep_fits s x.number (store_row x) t e p
+schedule_record_fits Exit s x t e p = schedule_keep_fits s x.number (exit_row x s.labels) t e p
+schedule_record_fits Join s x t e p = schedule_keep_fits s x.number (Ok row.Join) t e p
+schedule_record_fits End s x t e p = schedule_finish_fits s (label_in x s.labels 1) t e p
+schedule_record_fits ExitPiece s x t e p = head_fits s x.number (piece_in x 0 (exits_in s.rows)) t e p
+schedule_record_fits JoinPiece s x t e p = head_fits s x.number (piece_in x 8 (joins_in s.rows)) t e p
 
-  -- what a schedule's text says fits its places
-  pub schedule_fits : (bs : List ℕ) (x : Schedule) → read_schedule labels bs ≡ Ok x → ScheduleFits x
-  schedule_fits bs x e =
-      all_fit (schedules.take_line labels) (λ s l. or_unended l (schedule_of s) s.end) SchedulingFits ScheduleFits
-      (line_fits schedules.in_place (schedules.take_record labels) SchedulingFits schedule_record_fits)
-      (λ s l y q p. let u = unended_fits l (schedule_of s) s.end y q in
-      subst ScheduleFits u.1
-      (record {
-        rows = p.rows;
-        exits = short_take 8 s.pieces p.short;
-        entries = short_drop 8 s.pieces p.short;
-        eight = simp length-take (omega (arith, p.twelve));
-        four = simp length-drop (omega (arith, p.twelve));
-      }))
-      (lines bs) nothing_scheduled 1 x e (record { rows = zero-le; short = none_long 12; twelve = refl })
-    where
-      none_long : (n : ℕ) → Short (replicate n [])
-      none_long zero = tt
-      none_long (suc n) = (zero-le, none_long n)
+-- what a schedule's text says fits its places
+pub schedule_fits : (labels : List LabelRow) (bs : List ℕ) (x : Schedule) → read_schedule labels bs ≡ Ok x → ScheduleFits x
+schedule_fits labels bs x e =
+    all_fit schedules.take_line schedules.end_of schedule_of SchedulingFits ScheduleFits
+    (line_fits schedules.in_place schedules.take_record SchedulingFits schedule_record_fits)
+    (λ s n p.
+    record {
+      rows = p.rows;
+      exits = short_take 8 s.pieces p.short;
+      entries = short_drop 8 s.pieces p.short;
+      eight = simp length-take (omega (arith, p.twelve));
+      four = simp length-drop (omega (arith, p.twelve));
+    })
+    (lines bs) (nothing_scheduled labels) 1 x e (record { rows = zero-le; short = none_long 12; twelve = refl })
+  where
+    none_long : (n : ℕ) → Short (replicate n [])
+    none_long zero = tt
+    none_long (suc n) = (zero-le, none_long n)

@@ -1,16 +1,37 @@
--- How a name is looked up among label rows.
-use Rattle.std.proofs.Common.{◌≡◌, ℕ, ◌+◌, ◌<◌, ◌≤◌, true, false, List, length, get_or, drop, Some, None}
-use Rattle.std.proofs.lemmas.List.{drop_more, drop_all}
-use Rattle.numbering.specs.Rows.{found_from}
+-- Labels are found and numbered in the table as their rows are in a list.
+use Rattle.std.proofs.Common.{◌≡◌, ℕ, ◌+◌, Bool, true, false, cond, not, ltb, List, [], ◌∷◌, ◌++◌, length, map, Some, None, Option, sym, refl, ap, ◌∙◌}
+use Rattle.std.proofs.lemmas.List.{length-map, map_push}
+use Rattle.std.specs.List.{position_or_len}
+use Rattle.numbering.specs.Rows.{found, numbered, or_next, or_pushed, with_row}
 use Rattle.region.specs.declared.label.LabelRow.{LabelRow}
+use Rattle.region_text.specs.declared.label.Declared.{Declared}
 use Rattle.region_text.specs.Names.{same_label}
 
-module _ (xs : List LabelRow) (row : LabelRow) (i : ℕ) where
-  pub here : (d : LabelRow) → i < length xs → true ≡ same_label (get_or xs i d) row → Some i ≡ found_from same_label i (drop i xs) row
-  here d h e = rw (drop_more xs i d h, ← e)
+abbrev pub same_declared : Declared → Declared → Bool
+same_declared x y = same_label x.row y.row
 
-  pub past : (d : LabelRow) → i < length xs → false ≡ same_label (get_or xs i d) row → found_from same_label (i + 1) (drop (i + 1) xs) row ≡ found_from same_label i (drop i xs) row
-  past d h e = rw (drop_more xs i d h, ← e)
+abbrev pub declared : LabelRow → Declared
+declared x = record { row = x }
 
-  pub nowhere : length xs ≤ i → None ≡ found_from same_label i (drop i xs) row
-  nowhere h = rw (drop_all i xs h)
+abbrev rows : List Declared → List LabelRow
+rows = map (λ d. d.row)
+
+module _ (d : Declared) where
+  places : (ds : List Declared) → position_or_len (λ x. same_declared x d) ds ≡ position_or_len (λ x. same_label x d.row) (rows ds)
+  places [] = refl
+  places (x ∷ ds) = ap (λ n. cond (not (same_label x.row d.row)) (1 + n) 0) (places ds)
+
+  pub found_rows : (ds : List Declared) → found same_declared ds d ≡ found same_label (rows ds) d.row
+  found_rows ds = rw (places ds, ← length-map ds (λ d. d.row))
+
+  pub numbered_rows : (room : ℕ) (ds : List Declared) → numbered same_declared room ds d ≡ numbered same_label room (rows ds) d.row
+  numbered_rows room ds = ap (λ o. or_next o room (length ds)) (found_rows ds) ∙ ap (or_next (found same_label (rows ds) d.row) room) (sym (length-map ds (λ d. d.row)))
+
+  pushed : (room : ℕ) (ds : List Declared) (o : Option ℕ) → rows (or_pushed o room ds d) ≡ or_pushed o room (rows ds) d.row
+  pushed room ds (Some i) = refl
+  pushed room ds None =
+      rw (length-map ds (λ d. d.row))
+      (elim (ltb (length ds) room) as (λ b. rows (cond b (ds ++ d ∷ []) ds) ≡ cond b (rows ds ++ d.row ∷ []) (rows ds)) [ true ↦ map_push (λ d. d.row) ds d | false ↦ refl ])
+
+  pub rows_with : (room : ℕ) (ds : List Declared) → rows (with_row same_declared room ds d) ≡ with_row same_label room (rows ds) d.row
+  rows_with room ds = pushed room ds (found same_declared ds d) ∙ ap (λ o. or_pushed o room (rows ds) d.row) (found_rows ds)

@@ -1,6 +1,7 @@
 -- What a field says.
-use Rattle.std.specs.Prelude.{ℕ, ◌+◌, ◌-◌, ◌*◌, cond, ◌&&◌, List, [], ◌∷◌, length, Some, None, Ok, Err, Option, Result, ◌==◌, nat_le}
+use Rattle.std.specs.Prelude.{ℕ, ◌+◌, ◌-◌, ◌*◌, cond, ◌&&◌, List, [], ◌∷◌, length, Some, None, Err, Option, Result, ◌==◌, nat_le}
 use Rattle.std.specs.Char.{is_ascii_digit}
+use Rattle.std.specs.Option.{ok_or}
 use Rattle.region_text.specs.declared.fault.Fault.{Fault}
 use Rattle.region_text.specs.declared.fault.Fault.TheVariants.{Malformed, OutOfRange}
 use Rattle.region_text.specs.declared.fault.Spot.{Spot}
@@ -8,8 +9,7 @@ use Rattle.region_text.specs.declared.fault.FieldFault.{FieldFault}
 
 -- what is there, or a fault of the field
 abbrev pub or_fault : {X : Type 0} → Fault → Spot → Option X → Result X FieldFault
-or_fault f s None = Err (record { fault = f; spot = s })
-or_fault f s (Some x) = Ok x
+or_fault f s o = ok_or o (record { fault = f; spot = s })
 
 -- the number that digits say, after digits that said n
 abbrev pub digits : ℕ → List ℕ → Option ℕ

@@ -2,6 +2,7 @@ pub mod Faults
 pub mod Texts
 pub mod Fields
 pub mod Numbers
+pub mod Bounds
 pub mod Letters
 pub mod Names
 pub mod Records
@@ -10,6 +11,5 @@ pub mod Sources
 pub mod Schedules
 pub mod Drafts
 pub mod Scanning
-pub mod Places
+pub mod Lines
 pub mod Readers
-pub mod NameLaws

@@ -13,7 +13,7 @@ use Rattle.region_text.specs.declared.fault.Spot.{Spot}
 use Rattle.region_text.specs.declared.fault.FieldFault.{FieldFault}
 use Rattle.region_text.specs.Numbers.{op_at, literal_at, piece_at}
 use Rattle.region_text.specs.Fields.{or_fault, ranged, mask_field}
-use Rattle.region_text.specs.Texts.{field_at}
+use Rattle.region_text.specs.Texts.{LineFields, field_at}
 use Rattle.region_text.specs.Names.{same_label}
 
 -- a field's value handed on: the first faulty field decides
@@ -34,25 +34,25 @@ label_of (Some i) = label_at i
 abbrev pub spot_at : ℕ → ℕ → Spot
 spot_at l i = record { line = l; field = i + 1 }
 
--- what the fields of line l say
-module _ (l : ℕ) (fs : List (List ℕ)) where
+-- what the fields of a line say
+module _ (x : LineFields) where
   -- the field at index i as a number that stands for something, as a name, and as a mask
   abbrev pub number_in : {X : Type 0} → ℕ → (ℕ → Option X) → Result X FieldFault
-  number_in i make = ranged make (field_at fs i) (spot_at l i)
+  number_in i make = ranged make (field_at x.fields i) (spot_at x.number i)
 
   abbrev pub name_in : ℕ → Result Name FieldFault
-  name_in i = or_fault Malformed (spot_at l i) (name_at (field_at fs i))
+  name_in i = or_fault Malformed (spot_at x.number i) (name_at (field_at x.fields i))
 
   abbrev pub mask_in : ℕ → Result ℕ FieldFault
-  mask_in i = mask_field (field_at fs i) (spot_at l i)
+  mask_in i = mask_field (field_at x.fields i) (spot_at x.number i)
 
   -- a label: a name that is declared
   abbrev pub label_in : List LabelRow → ℕ → Result LabelNumber FieldFault
-  label_in labels i = then (name_in i) (λ n. or_fault Label (spot_at l i) (label_of (found same_label labels (named n 0))))
+  label_in labels i = then (name_in i) (λ n. or_fault Label (spot_at x.number i) (label_of (found same_label labels (named n 0))))
 
   -- a name that no label has yet
   abbrev pub new_name_in : List LabelRow → ℕ → Result Name FieldFault
-  new_name_in labels i = then (name_in i) (λ n. or_fault Label (spot_at l i) (cond (is_some (found same_label labels (named n 0))) None (Some n)))
+  new_name_in labels i = then (name_in i) (λ n. or_fault Label (spot_at x.number i) (cond (is_some (found same_label labels (named n 0))) None (Some n)))
 
   -- M name mask
   abbrev pub label_row : List LabelRow → Result LabelRow FieldFault
@@ -74,12 +74,9 @@ module _ (l : ℕ) (fs : List (List ℕ)) where
   abbrev pub store_row : Result Row FieldFault
   store_row = then (number_in 1 bank_at) (λ k. then (number_in 2 register_at) (λ a. then (number_in 3 register_at) (λ s. Ok (row.Act (action.Store k a s)))))
 
-  -- X t label; and what it says where the last field says this
-  abbrev pub exit_to : Result LabelNumber FieldFault → Result Row FieldFault
-  exit_to label = then (number_in 1 register_at) (λ t. then label (λ e. Ok (row.Exit t e)))
-
+  -- X t label
   abbrev pub exit_row : List LabelRow → Result Row FieldFault
-  exit_row labels = exit_to (label_in labels 2)
+  exit_row labels = then (number_in 1 register_at) (λ t. then (label_in labels 2) (λ e. Ok (row.Exit t e)))
 
   -- P k, Q j: the piece of a number up to count, where that of number 1 is piece `first`
   abbrev pub piece_in : (first count : ℕ) → Result ℕ FieldFault

@@ -1,10 +1,5 @@
 -- What the contracts of the byte readers cite. No rule of the text stands here.
-use Rattle.std.specs.Prelude.{ℕ, suc, min, cond, List, [], ◌∷◌, Some, None, Option, ◌==◌}
-
--- the place of the first mark, or the length
-abbrev pub upto : ℕ → List ℕ → ℕ
-upto m [] = 0
-upto m (b ∷ bs) = cond (b == m) 0 (suc (upto m bs))
+use Rattle.std.specs.Prelude.{ℕ, min, Some, None, Option}
 
 -- A number as a reader may hold it: from 65536 on all are as good as 65536, since no field says so much.
 abbrev pub capped : Option ℕ → Option ℕ

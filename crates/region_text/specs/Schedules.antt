@@ -13,20 +13,21 @@ use Rattle.region_text.specs.declared.fault.FieldFault.{FieldFault}
 use Rattle.region_text.specs.declared.fault.LineFault.{LineFault}
 use Rattle.region_text.specs.declared.fault.LineFault.TheVariants.{Field, Line}
 use Rattle.region_text.specs.declared.fault.Refusal.{Refusal}
-use Rattle.region_text.specs.Texts.{TextLine, lines}
+use Rattle.region_text.specs.Texts.{TextLine, LineFields, lines}
 use Rattle.region_text.specs.Records.{label_in, operate_row, literal_row, load_row, store_row, exit_row, piece_in}
-use Rattle.region_text.specs.Taking.{taken, or_unended, all_taken}
+use Rattle.region_text.specs.Taking.{taken, all_taken, whole}
 
--- What has been read of a schedule: its main rows, its end, its twelve pieces, and the piece that was headed last.
+-- What has been read of a schedule, over the label rows of its region: its main rows, its end, its twelve pieces, and the piece that was headed last.
 -- Pieces are numbered as they lie in a region: those of eight exits are 0 to 7, and those of four joins 8 to 11.
 pub record Scheduling : Type 0 where
+  pub labels : List LabelRow
   pub rows : List Row
   pub end : Option LabelNumber
   pub pieces : List (List Row)
   pub at : Option ℕ
 
-abbrev pub nothing_scheduled : Scheduling
-nothing_scheduled = record { rows = []; end = None; pieces = replicate 12 []; at = None }
+abbrev pub nothing_scheduled : List LabelRow → Scheduling
+nothing_scheduled labels = record { labels = labels; rows = []; end = None; pieces = replicate 12 []; at = None }
 
 -- in the main line, or in a piece
 abbrev pub in_rows : Scheduling → Bool
@@ -53,8 +54,8 @@ in_place JoinPiece s = is_some s.end
 
 -- one row more: in the main line, which then has at most 96 rows, 8 exits and 4 joins, or in the piece that was headed last, which then has at most 16 rows
 abbrev pub add : Scheduling → ℕ → Row → Option ℕ → Result Scheduling LineFault
-add s l x None = cond (main_fits (s.rows ++ x ∷ [])) (Ok (record { rows = s.rows ++ x ∷ []; end = s.end; pieces = s.pieces; at = s.at })) (Err (Line TooMany l))
-add s l x (Some p) = cond (piece_takes s.pieces p) (Ok (record { rows = s.rows; end = s.end; pieces = put_in s.pieces p x; at = s.at })) (Err (Line TooMany l))
+add s l x None = cond (main_fits (s.rows ++ x ∷ [])) (Ok (record s { rows = s.rows ++ x ∷ [] })) (Err (Line TooMany l))
+add s l x (Some p) = cond (piece_takes s.pieces p) (Ok (record s { pieces = put_in s.pieces p x })) (Err (Line TooMany l))
 
 -- one row more, where its fields are right
 abbrev pub keep : Scheduling → ℕ → Result Row FieldFault → Result Scheduling LineFault
@@ -64,7 +65,7 @@ keep s l (Ok x) = add s l x s.at
 -- the end label, where it is right
 abbrev pub finish : Scheduling → Result LabelNumber FieldFault → Result Scheduling LineFault
 finish s (Err f) = Err (Field f)
-finish s (Ok e) = Ok (record { rows = s.rows; end = Some e; pieces = s.pieces; at = s.at })
+finish s (Ok e) = Ok (record s { end = Some e })
 
 -- pieces are headed in rising order
 abbrev pub rises : Option ℕ → ℕ → Bool
@@ -74,7 +75,7 @@ rises (Some q) p = nat_lt q p
 -- the head of a piece, where its number is right and rises
 abbrev pub head : Scheduling → ℕ → Result ℕ FieldFault → Result Scheduling LineFault
 head s l (Err f) = Err (Field f)
-head s l (Ok p) = cond (rises s.at p) (Ok (record { rows = s.rows; end = s.end; pieces = s.pieces; at = Some p })) (Err (Line OutOfPlace l))
+head s l (Ok p) = cond (rises s.at p) (Ok (record s { at = Some p })) (Err (Line OutOfPlace l))
 
 -- what a schedule's text says: the pieces of eight exits and of four joins, empty where none was headed
 pub record Schedule : Type 0 where
@@ -86,25 +87,24 @@ pub record Schedule : Type 0 where
 abbrev pub schedule_of : Scheduling → LabelNumber → Schedule
 schedule_of s e = record { rows = s.rows; end = e; exits = exit_pieces s.pieces; entries = join_pieces s.pieces }
 
-module _ (labels : List LabelRow) where
-  -- what a record in its place adds
-  abbrev pub take_record : Letter → Scheduling → ℕ → List (List ℕ) → Result Scheduling LineFault
-  take_record Declare s l fs = Err (Line OutOfPlace l)
-  take_record Operate s l fs = keep s l (operate_row l fs)
-  take_record Literal s l fs = keep s l (literal_row l fs)
-  take_record Load s l fs = keep s l (load_row l fs)
-  take_record Store s l fs = keep s l (store_row l fs)
-  take_record Exit s l fs = keep s l (exit_row l fs labels)
-  take_record Join s l fs = keep s l (Ok row.Join)
-  take_record End s l fs = finish s (label_in l fs labels 1)
-  take_record ExitPiece s l fs = head s l (piece_in l fs 0 (exits_in s.rows))
-  take_record JoinPiece s l fs = head s l (piece_in l fs 8 (joins_in s.rows))
+-- what a record in its place adds
+abbrev pub take_record : Letter → Scheduling → LineFields → Result Scheduling LineFault
+take_record Declare s x = Err (Line OutOfPlace x.number)
+take_record Operate s x = keep s x.number (operate_row x)
+take_record Literal s x = keep s x.number (literal_row x)
+take_record Load s x = keep s x.number (load_row x)
+take_record Store s x = keep s x.number (store_row x)
+take_record Exit s x = keep s x.number (exit_row x s.labels)
+take_record Join s x = keep s x.number (Ok row.Join)
+take_record End s x = finish s (label_in x s.labels 1)
+take_record ExitPiece s x = head s x.number (piece_in x 0 (exits_in s.rows))
+take_record JoinPiece s x = head s x.number (piece_in x 8 (joins_in s.rows))
 
-  abbrev pub take_line : Scheduling → ℕ → TextLine → Result Scheduling LineFault
-  take_line = taken in_place take_record
+abbrev pub take_line : Scheduling → ℕ → TextLine → Result Scheduling LineFault
+take_line = taken in_place take_record
 
-  abbrev pub read_lines : Scheduling → ℕ → List TextLine → Result Schedule Refusal
-  read_lines = all_taken take_line (λ s l. or_unended l (schedule_of s) s.end)
+abbrev pub end_of : Scheduling → Option LabelNumber
+end_of s = s.end
 
-  abbrev pub read_schedule : List ℕ → Result Schedule Refusal
-  read_schedule bs = read_lines nothing_scheduled 1 (lines bs)
+abbrev pub read_schedule : List LabelRow → List ℕ → Result Schedule Refusal
+read_schedule labels bs = whole schedule_of (all_taken take_line end_of (nothing_scheduled labels) 1 (lines bs))

@@ -12,8 +12,8 @@ use Rattle.region_text.specs.declared.fault.FieldFault.{FieldFault}
 use Rattle.region_text.specs.declared.fault.LineFault.{LineFault}
 use Rattle.region_text.specs.declared.fault.LineFault.TheVariants.{Field, Line}
 use Rattle.region_text.specs.declared.fault.Refusal.{Refusal}
-use Rattle.region_text.specs.Texts.{TextLine, lines}
-use Rattle.region_text.specs.Taking.{taken, or_unended, all_taken}
+use Rattle.region_text.specs.Texts.{TextLine, LineFields, lines}
+use Rattle.region_text.specs.Taking.{taken, all_taken, whole}
 use Rattle.region_text.specs.Records.{label_in, label_row, operate_row, literal_row, load_row, store_row, exit_row}
 
 -- what has been read of a source
@@ -45,30 +45,30 @@ in_place JoinPiece r = false
 -- one more label, where its fields are right and there are fewer than nine before it
 abbrev pub declare : Reading → ℕ → Result LabelRow FieldFault → Result Reading LineFault
 declare r l (Err f) = Err (Field f)
-declare r l (Ok x) = cond (nat_lt (length r.labels) 9) (Ok (record { labels = r.labels ++ x ∷ []; rows = r.rows; end = r.end })) (Err (Line TooMany l))
+declare r l (Ok x) = cond (nat_lt (length r.labels) 9) (Ok (record r { labels = r.labels ++ x ∷ [] })) (Err (Line TooMany l))
 
 -- one more row, where its fields are right and there are then at most 96 rows, 8 exits and 4 joins
 abbrev pub keep : Reading → ℕ → Result Row FieldFault → Result Reading LineFault
 keep r l (Err f) = Err (Field f)
-keep r l (Ok x) = cond (main_fits (r.rows ++ x ∷ [])) (Ok (record { labels = r.labels; rows = r.rows ++ x ∷ []; end = r.end })) (Err (Line TooMany l))
+keep r l (Ok x) = cond (main_fits (r.rows ++ x ∷ [])) (Ok (record r { rows = r.rows ++ x ∷ [] })) (Err (Line TooMany l))
 
 -- the end label, where it is right
 abbrev pub finish : Reading → Result LabelNumber FieldFault → Result Reading LineFault
 finish r (Err f) = Err (Field f)
-finish r (Ok e) = Ok (record { labels = r.labels; rows = r.rows; end = Some e })
+finish r (Ok e) = Ok (record r { end = Some e })
 
 -- what a record in its place adds
-abbrev pub take_record : Letter → Reading → ℕ → List (List ℕ) → Result Reading LineFault
-take_record Declare r l fs = declare r l (label_row l fs r.labels)
-take_record Operate r l fs = keep r l (operate_row l fs)
-take_record Literal r l fs = keep r l (literal_row l fs)
-take_record Load r l fs = keep r l (load_row l fs)
-take_record Store r l fs = keep r l (store_row l fs)
-take_record Exit r l fs = keep r l (exit_row l fs r.labels)
-take_record Join r l fs = keep r l (Ok row.Join)
-take_record End r l fs = finish r (label_in l fs r.labels 1)
-take_record ExitPiece r l fs = Err (Line OutOfPlace l)
-take_record JoinPiece r l fs = Err (Line OutOfPlace l)
+abbrev pub take_record : Letter → Reading → LineFields → Result Reading LineFault
+take_record Declare r x = declare r x.number (label_row x r.labels)
+take_record Operate r x = keep r x.number (operate_row x)
+take_record Literal r x = keep r x.number (literal_row x)
+take_record Load r x = keep r x.number (load_row x)
+take_record Store r x = keep r x.number (store_row x)
+take_record Exit r x = keep r x.number (exit_row x r.labels)
+take_record Join r x = keep r x.number (Ok row.Join)
+take_record End r x = finish r (label_in x r.labels 1)
+take_record ExitPiece r x = Err (Line OutOfPlace x.number)
+take_record JoinPiece r x = Err (Line OutOfPlace x.number)
 
 abbrev pub take_line : Reading → ℕ → TextLine → Result Reading LineFault
 take_line = taken in_place take_record
@@ -82,8 +82,8 @@ pub record Source : Type 0 where
 abbrev pub source_of : Reading → LabelNumber → Source
 source_of r e = record { labels = r.labels; rows = r.rows; end = e }
 
-abbrev pub read_lines : Reading → ℕ → List TextLine → Result Source Refusal
-read_lines = all_taken take_line (λ r l. or_unended l (source_of r) r.end)
+abbrev pub end_of : Reading → Option LabelNumber
+end_of r = r.end
 
 abbrev pub read_source : List ℕ → Result Source Refusal
-read_source bs = read_lines nothing_read 1 (lines bs)
+read_source bs = whole source_of (all_taken take_line end_of nothing_read 1 (lines bs))

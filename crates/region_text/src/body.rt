@@ -1,22 +1,30 @@
-use region::{LabelNumber, MainRows, PieceRows};
+ghost use Rattle.std.specs.Prelude.{◌≡◌};
+ghost use Rattle.numbering.specs.Used.{capacity};
 
-/// What has been read of a source behind its labels.
-#[derive(Clone, Copy)]
-pub(crate) struct Body {
+use super::label::Declared;
+use numbering::Table;
+use region::{LabelNumber, LabelRow, MainRows, PieceRows};
+
+/// The labels that a source declares, in memory for nine.
+#[derive(Drop)]
+pub(crate) struct DeclaredLabels<'a> {
+    pub(crate) table: Table<'a, Declared>,
+    ghost nine: { capacity table ≡ 9 },
+}
+
+/// What has been read of a source.
+#[derive(Drop)]
+pub(crate) struct SourceBody<'a> {
+    pub(crate) labels: DeclaredLabels<'a>,
     pub(crate) rows: MainRows,
     pub(crate) end: Option<LabelNumber>,
 }
 
-/// All that a source has behind its labels.
+/// What has been read of a schedule of the region that has these label rows; `at` is the piece that was headed last, by its number among the twelve,
+/// since the numbers rise as the heads do.
 #[derive(Clone, Copy)]
-pub(crate) struct WholeBody {
-    pub(crate) rows: MainRows,
-    pub(crate) end: LabelNumber,
-}
-
-/// What has been read of a schedule; `at` is the piece that was headed last.
-#[derive(Clone, Copy)]
-pub(crate) struct ScheduleBody {
+pub(crate) struct ScheduleBody<'a> {
+    pub(crate) labels: &'a [LabelRow],
     pub(crate) rows: MainRows,
     pub(crate) end: Option<LabelNumber>,
     pub(crate) pieces: PieceRows,

@@ -10,7 +10,7 @@ pub(crate) struct Line<'a> {
 }
 
 /// What is left of a text, and the number of its next line, which never wraps.
-#[derive(Clone, Copy)]
+#[derive(Drop)]
 pub(crate) struct Lines<'a> {
     pub(crate) rest: &'a [u8],
     pub(crate) number: usize,

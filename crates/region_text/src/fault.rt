@@ -4,19 +4,19 @@ ghost use Rattle.std.specs.Prelude.{◌≡◌};
 ghost use Rattle.region_text.specs.declared.fault.LineFault.TheVariants.{Field as Within, Line as Whole};
 ghost use Rattle.region_text.specs.Faults.{layer_name, printed, refusal_of, unended};
 
-/// What is wrong, in the order of the printed numbers, which begin at 6.
+/// What is wrong, by the numbers that are printed.
 #[derive(Clone, Copy, PartialEq, Eq)]
 pub enum Fault {
-    /// 6: an unknown letter, a wrong field count, no final LF, or a bad number, name or mask.
-    Malformed,
-    /// 7: a number outside its range.
-    OutOfRange,
-    /// 8: a label that is not declared, or declared twice.
-    Label,
-    /// 9: a size is passed.
-    TooMany,
-    /// 10: a record in the wrong place, or no end.
-    OutOfPlace,
+    /// An unknown letter, a wrong field count, no final LF, or a bad number, name or mask.
+    Malformed = 6,
+    /// A number outside its range.
+    OutOfRange = 7,
+    /// A label that is not declared, or declared twice.
+    Label = 8,
+    /// A size is passed.
+    TooMany = 9,
+    /// A record in the wrong place, or no end.
+    OutOfPlace = 10,
 }
 
 impl Fault {
@@ -24,13 +24,7 @@ impl Fault {
     pub fn number(self) -> u8
         ensures { result ≡ printed self }
     {
-        match self {
-            Fault::Malformed => 6,
-            Fault::OutOfRange => 7,
-            Fault::Label => 8,
-            Fault::TooMany => 9,
-            Fault::OutOfPlace => 10,
-        }
+        self as u8
     }
 }
 
@@ -101,7 +95,7 @@ impl From<FieldFault> for LineFault {
 }
 
 /// Why a text is not taken: a line or a field that does not apply is 0.
-#[derive(Clone, Copy)]
+#[derive(Clone, Copy, PartialEq, Eq)]
 pub struct Refusal {
     pub fault: Fault,
     pub line: usize,

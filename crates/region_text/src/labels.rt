@@ -1,64 +1,33 @@
 // The labels of a text.
-ghost use Rattle.std.specs.Prelude.{◌≡◌};
+ghost use Rattle.std.specs.Prelude.{◌≡◌, List};
 ghost use Rattle.numbering.specs.Rows.{found};
-ghost use Rattle.region.specs.Numbers.{label_at};
+ghost use Rattle.region.specs.declared.label.LabelRow.{LabelRow as RowOfLabel};
 ghost use Rattle.region_text.specs.Names.{same_label};
-ghost use Rattle.region_text.specs.Texts.{fields as parts};
-ghost use Rattle.region_text.specs.Records.{named, spot_at, label_of, label_in, new_name_in, label_row, exit_to};
+ghost use Rattle.region_text.specs.Lines.{parted};
+ghost use Rattle.region_text.specs.Records.{named, spot_at, label_of, label_in, new_name_in, label_row, exit_row};
 ghost use Rattle.region_text.specs.Fields.{or_fault};
 ghost use Rattle.region_text.specs.declared.fault.Fault.TheVariants.{Label as Undeclared};
-ghost use Rattle.region_text.specs.Readers.{labels_of};
 
 use super::cursor::Line;
 use super::fault::{Fault, FieldFault};
-use super::kinds::same_name;
-use super::label::Declared;
-use numbering::Table;
 use region::{LabelNumber, LabelRow, Name, Row};
 
-/// The label of a number.
-fn label_number(place: usize) -> Option<LabelNumber>
-    ensures { result ≡ label_at place }
-{
-    if place <= u8::MAX as usize {
-        LabelNumber::new(place as u8)
-    } else {
-        None
-    }
+/// Labels that a record may name.
+pub(crate) trait Labels {
+    /// Their rows: a label's place among them is its number.
+    ghost rows: { Self → List RowOfLabel };
+
+    /// The place of a name among them.
+    fn find(&self, label: Name) -> Option<usize>
+        ensures { result ≡ found same_label (rows self.now) (named label 0) };
 }
 
-/// The place of a name among the declared labels.
-fn find_name(labels: &Table<'_, Declared>, label: Name) -> Option<usize>
-    ensures { result ≡ found same_label (labels_of labels.now) (named label 0) }
-{
-    labels.find(&Declared {
-        row: LabelRow {
-            name: Some(label),
-            live: 0,
-        },
-    })
-}
+impl Labels for &[LabelRow] {
+    ghost rows = { λ s. s.now };
 
-/// Whether a label row has that name.
-fn is_named(row: LabelRow, label: Name) -> bool
-    ensures { result ≡ same_label row (named label 0) }
-{
-    match row.name {
-        Some(name) => same_name(name, label),
-        None => false,
+    fn find(&self, label: Name) -> Option<usize> {
+        self.iter().position(|row| row.name == Some(label))
     }
-}
-
-/// The place of the first label row with that name.
-fn find_among(labels: &[LabelRow], label: Name) -> Option<usize>
-    ensures { result ≡ found same_label labels.now (named label 0) }
-{
-    for (i, row) in labels.iter().enumerate() {
-        if is_named(*row, label) {
-            return Some(i);
-        }
-    }
-    None
 }
 
 impl<'a> Line<'a> {
@@ -66,53 +35,37 @@ impl<'a> Line<'a> {
     fn label_of(self, index: u8, place: Option<usize>) -> Result<LabelNumber, FieldFault>
         ensures { result ≡ or_fault Undeclared (spot_at self.entry.number index) (label_of place) }
     {
-        let Some(place) = place else {
-            return Err(Fault::Label.at(self.spot(index)));
-        };
-        let Some(number) = label_number(place) else {
-            return Err(Fault::Label.at(self.spot(index)));
-        };
-        Ok(number)
+        place
+            .and_then(LabelNumber::new)
+            .ok_or(Fault::Label.at(self.spot(index)))
     }
 
     /// The declared label in the field at an index.
-    pub(crate) fn label_at(
+    pub(crate) fn label_at<L: Labels>(
         self,
         index: u8,
-        labels: &Table<'_, Declared>,
+        labels: &L,
     ) -> Result<LabelNumber, FieldFault>
-        ensures { result ≡ label_in self.entry.number (parts self.entry.bytes.now) (labels_of labels.now) index }
+        ensures { result ≡ label_in (parted self.entry) (L.rows labels.now) index }
     {
         let label = self.name_at(index)?;
-        self.label_of(index, find_name(labels, label))
-    }
-
-    /// The label that the field at an index names among those given.
-    pub(crate) fn label_among(
-        self,
-        index: u8,
-        labels: &[LabelRow],
-    ) -> Result<LabelNumber, FieldFault>
-        ensures { result ≡ label_in self.entry.number (parts self.entry.bytes.now) labels.now index }
-    {
-        let label = self.name_at(index)?;
-        self.label_of(index, find_among(labels, label))
+        self.label_of(index, labels.find(label))
     }
 
     /// The name in the field at an index, which no label has yet.
-    fn new_name_at(self, index: u8, labels: &Table<'_, Declared>) -> Result<Name, FieldFault>
-        ensures { result ≡ new_name_in self.entry.number (parts self.entry.bytes.now) (labels_of labels.now) index }
+    fn new_name_at<L: Labels>(self, index: u8, labels: &L) -> Result<Name, FieldFault>
+        ensures { result ≡ new_name_in (parted self.entry) (L.rows labels.now) index }
     {
         let label = self.name_at(index)?;
-        if find_name(labels, label).is_some() {
-            return Err(Fault::Label.at(self.spot(index)));
+        match labels.find(label) {
+            Some(_) => Err(Fault::Label.at(self.spot(index))),
+            None => Ok(label),
         }
-        Ok(label)
     }
 
     /// `M name mask`
-    pub(crate) fn label_row(self, labels: &Table<'_, Declared>) -> Result<LabelRow, FieldFault>
-        ensures { result ≡ label_row self.entry.number (parts self.entry.bytes.now) (labels_of labels.now) }
+    pub(crate) fn label_row<L: Labels>(self, labels: &L) -> Result<LabelRow, FieldFault>
+        ensures { result ≡ label_row (parted self.entry) (L.rows labels.now) }
     {
         let label = self.new_name_at(1, labels)?;
         let live = self.mask_at(2)?;
@@ -122,12 +75,12 @@ impl<'a> Line<'a> {
         })
     }
 
-    /// `X t label`, where the last field says that label.
-    pub(crate) fn exit_row(self, label: Result<LabelNumber, FieldFault>) -> Result<Row, FieldFault>
-        ensures { result ≡ exit_to self.entry.number (parts self.entry.bytes.now) label }
+    /// `X t label`
+    pub(crate) fn exit_row<L: Labels>(self, labels: &L) -> Result<Row, FieldFault>
+        ensures { result ≡ exit_row (parted self.entry) (L.rows labels.now) }
     {
         let tested = self.number_at(1)?;
-        let label = label?;
+        let label = self.label_at(2, labels)?;
         Ok(Row::Exit { tested, label })
     }
 }

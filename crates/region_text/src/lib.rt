@@ -4,6 +4,7 @@
 
 mod body;
 mod cursor;
+mod declared;
 mod draft;
 mod fault;
 mod fields;
@@ -17,6 +18,7 @@ mod reading;
 mod schedule;
 mod scheduling;
 mod source;
+mod taking;
 #[cfg(test)]
 mod tests;
 mod texts;

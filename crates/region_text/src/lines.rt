@@ -1,7 +1,7 @@
 // What the fields of a line say.
 ghost use Rattle.std.specs.Prelude.{◌≡◌};
 ghost use Rattle.region_text.specs.Letters.{letter_at, field_count, letter_of as letter_meant, form as formed};
-ghost use Rattle.region_text.specs.Texts.{fields as parts, text_line};
+ghost use Rattle.region_text.specs.Lines.{as_text, parted};
 ghost use Rattle.region_text.specs.Records.{spot_at, number_in, name_in, mask_in, operate_row, literal_row, load_row, store_row};
 
 use super::cursor::Line;
@@ -35,10 +35,10 @@ impl Letter {
     fn read(field: &[u8]) -> Option<Letter>
         ensures { result ≡ letter_meant field.now }
     {
-        if field.len() != 1 {
-            return None;
+        match field {
+            [letter] => letter_of(*letter),
+            _ => None,
         }
-        letter_of(field[0])
     }
 
     /// How many fields the record has, its letter included.
@@ -58,16 +58,11 @@ impl Letter {
 impl<'a> Line<'a> {
     /// The record that the line holds: a known letter, as many fields as it asks for, and a final LF.
     pub(crate) fn form(self) -> Option<Letter>
-        ensures { result ≡ formed (text_line self.entry.bytes.now self.entry.ended) }
+        ensures { result ≡ formed (as_text self.entry) }
     {
-        let Some(letter) = Letter::read(nth_field(self.bytes, 0)) else {
-            return None;
-        };
-        if count_fields(self.bytes) == letter.field_count() && self.ended {
-            Some(letter)
-        } else {
-            None
-        }
+        Letter::read(nth_field(self.bytes, 0)).filter(|letter| count_fields(self.bytes)
+            == letter.field_count()
+            && self.ended)
     }
 
     /// The place of the field at an index.
@@ -82,31 +77,30 @@ impl<'a> Line<'a> {
 
     /// What the number in the field at an index stands for.
     pub(crate) fn number_at<R: Ranged>(self, index: u8) -> Result<R, FieldFault>
-        ensures { result ≡ number_in self.entry.number (parts self.entry.bytes.now) index R.make }
+        ensures { result ≡ number_in (parted self.entry) index R.make }
     {
         read_ranged(nth_field(self.bytes, index as usize), self.spot(index))
     }
 
     /// The name in the field at an index.
     pub(crate) fn name_at(self, index: u8) -> Result<Name, FieldFault>
-        ensures { result ≡ name_in self.entry.number (parts self.entry.bytes.now) index }
+        ensures { result ≡ name_in (parted self.entry) index }
     {
-        let Some(name) = Name::new(nth_field(self.bytes, index as usize)) else {
-            return Err(Fault::Malformed.at(self.spot(index)));
-        };
-        Ok(name)
+        Name::new(nth_field(self.bytes, index as usize)).ok_or(Fault::Malformed.at(self.spot(
+            index,
+        )))
     }
 
     /// The mask in the field at an index.
     pub(crate) fn mask_at(self, index: u8) -> Result<u16, FieldFault>
-        ensures { result ≡ mask_in self.entry.number (parts self.entry.bytes.now) index }
+        ensures { result ≡ mask_in (parted self.entry) index }
     {
         read_mask(nth_field(self.bytes, index as usize), self.spot(index))
     }
 
     /// `O op d a b`
     pub(crate) fn operate_row(self) -> Result<Row, FieldFault>
-        ensures { result ≡ operate_row self.entry.number (parts self.entry.bytes.now) }
+        ensures { result ≡ operate_row (parted self.entry) }
     {
         let op = self.number_at(1)?;
         let to = self.number_at(2)?;
@@ -122,7 +116,7 @@ impl<'a> Line<'a> {
 
     /// `I d n`
     pub(crate) fn literal_row(self) -> Result<Row, FieldFault>
-        ensures { result ≡ literal_row self.entry.number (parts self.entry.bytes.now) }
+        ensures { result ≡ literal_row (parted self.entry) }
     {
         let to = self.number_at(1)?;
         let value = self.number_at(2)?;
@@ -131,7 +125,7 @@ impl<'a> Line<'a> {
 
     /// `L d bank a`
     pub(crate) fn load_row(self) -> Result<Row, FieldFault>
-        ensures { result ≡ load_row self.entry.number (parts self.entry.bytes.now) }
+        ensures { result ≡ load_row (parted self.entry) }
     {
         let to = self.number_at(1)?;
         let bank = self.number_at(2)?;
@@ -141,7 +135,7 @@ impl<'a> Line<'a> {
 
     /// `S bank a s`
     pub(crate) fn store_row(self) -> Result<Row, FieldFault>
-        ensures { result ≡ store_row self.entry.number (parts self.entry.bytes.now) }
+        ensures { result ≡ store_row (parted self.entry) }
     {
         let bank = self.number_at(1)?;
         let address = self.number_at(2)?;

@@ -1,37 +1,31 @@
 // What the numbers of fields stand for.
-ghost use Rattle.region.specs.Numbers.{register_at, bank_at};
+ghost use Rattle.domain.specs.Numbered.{numbered};
+ghost use Rattle.region_text.specs.Bounds.{none_beyond};
 ghost use Rattle.region_text.specs.Numbers.{op_at, literal_at};
 ghost use Rattle.std.proofs.Common.{rules};
 
 use super::fields::Ranged;
-use domain::Op;
-use region::{Bank, Register};
+use domain::{Below, Op};
 
-impl Ranged for Register {
-    ghost make = { register_at };
+/// The operations in the order of their numbers.
+const OPERATIONS: [Op; 8] = [
+    Op::Add,
+    Op::Sub,
+    Op::Mul,
+    Op::Div,
+    Op::Lt,
+    Op::Eq,
+    Op::And,
+    Op::Or,
+];
 
-    ghost bounded = { Prim.search rules };
+impl<const N: u8> Ranged for Below<N> {
+    ghost make = { numbered N };
 
-    fn from_number(n: u16) -> Option<Register> {
-        if n <= u8::MAX as u16 {
-            Register::new(n as u8)
-        } else {
-            None
-        }
-    }
-}
+    ghost bounded = { Prim.search (rules, none_beyond) };
 
-impl Ranged for Bank {
-    ghost make = { bank_at };
-
-    ghost bounded = { Prim.search rules };
-
-    fn from_number(n: u16) -> Option<Bank> {
-        if n <= u8::MAX as u16 {
-            Bank::new(n as u8)
-        } else {
-            None
-        }
+    fn from_number(n: u16) -> Option<Below<N>> {
+        Below::new(n as usize)
     }
 }
 
@@ -41,17 +35,7 @@ impl Ranged for Op {
     ghost bounded = { Prim.search rules };
 
     fn from_number(n: u16) -> Option<Op> {
-        match n {
-            0 => Some(Op::Add),
-            1 => Some(Op::Sub),
-            2 => Some(Op::Mul),
-            3 => Some(Op::Div),
-            4 => Some(Op::Lt),
-            5 => Some(Op::Eq),
-            6 => Some(Op::And),
-            7 => Some(Op::Or),
-            _ => None,
-        }
+        OPERATIONS.get(n as usize).copied()
     }
 }
 

@@ -1,13 +1,27 @@
-use crate::{Fault, Layer, read_schedule, read_source};
-use region::{Action, LabelRow, Name, Row};
+use crate::{Fault, Layer, Refusal, read_schedule, read_source};
+use region::{Action, LabelRow, Name, Piece, Row};
 use std::test::Fail;
 
-/// Whether a text is refused with that fault, there.
+/// Whether an answer is a refusal with that fault, there.
+fn is_refusal<D: Drop>(
+    answer: Result<D, Refusal>,
+    fault: Fault,
+    line: usize,
+    field: usize,
+    layer: Layer,
+) -> bool {
+    answer.err()
+        == Some(Refusal {
+            fault,
+            line,
+            field,
+            layer,
+        })
+}
+
+/// Whether a source is refused so.
 fn is_refused(text: &[u8], fault: Fault, line: usize, field: usize, layer: Layer) -> bool {
-    match read_source(text) {
-        Ok(_) => false,
-        Err(r) => r.fault == fault && r.line == line && r.field == field && r.layer == layer,
-    }
+    is_refusal(read_source(text), fault, line, field, layer)
 }
 
 #[test]
@@ -69,21 +83,15 @@ fn second_a() -> [LabelRow; 2] {
     ]
 }
 
-/// Whether a schedule is refused with that fault, there.
+/// Whether a schedule is refused so.
 fn is_schedule_refused(text: &[u8], fault: Fault, line: usize, field: usize, layer: Layer) -> bool {
-    match read_schedule(&second_a(), text) {
-        Ok(_) => false,
-        Err(r) => r.fault == fault && r.line == line && r.field == field && r.layer == layer,
-    }
+    is_refusal(read_schedule(&second_a(), text), fault, line, field, layer)
 }
 
 /// The literal of a row, or 0.
 fn literal(row: Row) -> u16 {
     match row {
-        Row::Act(action) => match action {
-            Action::Literal { to: _, value } => value,
-            _ => 0,
-        },
+        Row::Act(Action::Literal { to: _, value }) => value,
         _ => 0,
     }
 }
@@ -99,8 +107,8 @@ fn a_schedule_is_read(rt: HostRuntime) -> Result<(), Fail> {
     assert_eq!(rt; literal(draft.rows[96 + 16]), 7);
     assert_eq!(rt; literal(draft.rows[224]), 9);
     assert_eq!(rt; draft.shape.rows(), 3);
-    assert_eq!(rt; draft.shape.exit_rows(1), 1);
-    assert_eq!(rt; draft.shape.entry_rows(0), 1);
+    assert_eq!(rt; draft.shape.piece_rows(Piece::OfExit(1)), 1);
+    assert_eq!(rt; draft.shape.piece_rows(Piece::OfJoin(0)), 1);
     assert_eq!(rt; draft.shape.end().get(), 1);
     Ok(())
 }

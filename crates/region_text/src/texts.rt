@@ -1,22 +1,11 @@
 // A text as lines, and a line as fields.
-ghost use Rattle.std.specs.Prelude.{◌≡◌, ◌+◌, ◌<◌, ◌≤◌, [], ◌∷◌, length, MatchOption, OnSome};
+ghost use Rattle.std.specs.Prelude.{◌≡◌, ◌==◌, ◌<◌, [], ◌∷◌, length, MatchOption, IfSome};
+ghost use Rattle.std.specs.List.{position};
+ghost use Rattle.std.specs.Iterator.{item_count};
 ghost use Rattle.region_text.specs.Texts.{fields as parts, field_at, lines as text_lines, text_line};
-ghost use Rattle.region_text.specs.Scanning.{upto};
+ghost use Rattle.region_text.specs.Lines.{NextLine};
 
 use super::cursor::{Line, Lines};
-
-/// The place of the first `mark`, or the length.
-fn find_mark(text: &[u8], mark: u8) -> usize
-    ensures place { result ≡ upto mark text.now }
-    ensures within { result ≤ length text.now }
-{
-    for (i, b) in text.iter().enumerate() {
-        if *b == mark {
-            return i;
-        }
-    }
-    text.len()
-}
 
 impl<'a> Lines<'a> {
     /// The lines of a text, the first of which has the number 1.
@@ -29,31 +18,45 @@ impl<'a> Lines<'a> {
             number: 1,
         }
     }
+}
 
-    /// The next line, without its LF.
-    pub(crate) fn next(&mut self) -> Option<Line<'a>>
-        ensures line { MatchOption result (text_lines self.old.rest.now ≡ []) (λ x. text_lines self.old.rest.now ≡ text_line x.bytes.now x.ended ∷ text_lines self.new.rest.now) }
-        ensures numbers { MatchOption result (self.new.number ≡ self.old.number) (λ x. (x.number ≡ self.old.number) × (self.new.number ≡ self.old.number + 1)) }
-        ensures less { OnSome result (length self.new.rest.now < length self.old.rest.now) }
-    {
-        let rest = self.rest;
+/// The place of the first LF.
+fn find_end(text: &[u8]) -> Option<usize>
+    ensures { result ≡ position (λ b. b == 10) text.now }
+{
+    text.iter().position(|b| *b == b'\n')
+}
+
+/// The first line of a text without its LF, whether it had one, and what is left behind it.
+fn first_line(text: &[u8]) -> Option<(&[u8], bool, &[u8])>
+    ensures line { MatchOption result (text_lines text.now ≡ []) (λ x. text_lines text.now ≡ text_line x.0.now x.1 ∷ text_lines x.2.now) }
+    ensures less { IfSome result (λ x. length x.2.now < length text.now) }
+{
+    if text.is_empty() {
+        return None;
+    }
+    match find_end(text) {
+        Some(end) => Some((&text[..end], true, &text[end + 1..])),
+        None => Some((text, false, &[])),
+    }
+}
+
+impl<'a> Iterator for Lines<'a> {
+    type Item = Line<'a>;
+
+    ghost next_gives = { NextLine };
+
+    ghost remaining = { item_count (λ s. text_lines s.rest.now) };
+
+    fn next(&mut self) -> Option<Line<'a>> {
+        let (bytes, ended, rest) = first_line(self.rest)?;
         let number = self.number;
-        if rest.len() == 0 {
-            return None;
-        }
-        let end = find_mark(rest, b'\n');
-        let ended = end < rest.len();
-        let next = if ended {
-            &rest[end + 1..]
-        } else {
-            &rest[end..]
-        };
         *self = Lines {
-            rest: next,
+            rest,
             number: number + 1,
         };
         Some(Line {
-            bytes: &rest[0..end],
+            bytes,
             ended,
             number,
         })
@@ -64,29 +67,12 @@ impl<'a> Lines<'a> {
 pub(crate) fn count_fields(line: &[u8]) -> usize
     ensures { result ≡ length (parts line.now) }
 {
-    let mut n = 1;
-    for b in line {
-        if *b == b'\t' {
-            n += 1;
-        }
-    }
-    n
+    line.split(|b| *b == b'\t').count()
 }
 
 /// The field at `index`, counted from 0, or nothing where the line has no such field.
 pub(crate) fn nth_field(line: &[u8], index: usize) -> &[u8]
     ensures { result.now ≡ field_at (parts line.now) index }
 {
-    let mut rest = line;
-    let mut k = 0;
-    while k < index {
-        let end = find_mark(rest, b'\t');
-        if end == rest.len() {
-            return &rest[end..];
-        }
-        rest = &rest[end + 1..];
-        k += 1;
-    }
-    let end = find_mark(rest, b'\t');
-    &rest[0..end]
+    line.split(|b| *b == b'\t').nth(index).unwrap_or(&[])
 }

@@ -1,32 +1,17 @@
-use Rattle.std.proofs.Common.{◌≡◌, ◌+◌, ◌-◌, take, sym, ap, ◌∙◌, arith}
-use Rattle.std.proofs.lemmas.List.{take_rest, length-drop, drop_all}
-use Rattle.region_text.specs.Texts.{fields, field_at}
-use Rattle.region_text.specs.Scanning.{upto}
-use Rattle.region_text.proofs.Splits.{first, later, none_later}
+use Rattle.std.proofs.Common.{◌≡◌, ◌==◌, List, [], ℕ, Bor, Some, None, Option, rules, refl, ap, ◌∙◌}
+use Rattle.std.specs.Option.{unwrap_or, option_map}
+use Rattle.std.specs.List.{slice_split}
+use Rattle.std.proofs.lemmas.Option.{unwrap_or-slice_get}
+use Rattle.std.proofs.lemmas.Iterator.Consumers.{nth_from_yields_List}
+use Rattle.std.proofs.lemmas.Iterator.Splits.{YieldsList-from_slice_split}
 use Rattle.region_text.proofs.texts.nth_field.Goals as goal
 
-pub loop-k-preserved : goal.loop-k-preserved
-loop-k-preserved c =
-    let r = c.loop-k.rest.now in
-    let n = c.find_mark-end.result in
-    let t = take_rest r (n + 1) in (
-      omega arith,
-      rw t (omega (arith, length-drop (n + 1) r)),
-      rw t (sym (later r n (c.args.index - c.loop-k.k) (c.args.index - (c.loop-k.k + 1)) c.find_mark-end.ensures.place (omega arith) (omega arith)) ∙ c.loop-k.invariant.2),
-    )
+pointed : (r : Option (Bor (List ℕ))) (d : Bor (List ℕ)) → (unwrap_or r d).now ≡ unwrap_or (option_map (λ x. x.now) r) d.now
+pointed None d = refl
+pointed (Some x) d = refl
 
 pub returns : goal.returns
 returns c =
-    let r = c.loop-k.rest.now in
-    let n = c.find_mark-end-2.result in
-    let e : n - 0 ≡ upto 9 r = omega (arith, c.find_mark-end-2.ensures.place) in
-    let z : 0 ≡ c.args.index - c.loop-k.k = omega arith in
-    ap (λ k. take k r) e ∙ sym (first r) ∙ ap (field_at (fields r)) z ∙ c.loop-k.invariant.2
-
-pub returns-then-end-rest : goal.returns-then-end-rest
-returns-then-end-rest c =
-    let r = c.loop-k.rest.now in
-    take_rest r _ ∙ drop_all _ r (omega arith) ∙ sym (none_later r (c.args.index - c.loop-k.k) (omega arith) (omega arith)) ∙ c.loop-k.invariant.2
-
-pub overflow_add-rest : goal.overflow_add-rest
-overflow_add-rest c = omega arith
+    let split = c.split.ensures in
+    let nth = nth_from_yields_List c.nth.result _ c.args.index c.nth.ensures.ran (YieldsList-from_slice_split _ (λ b. b == 9) c.args.line.now split.rest split.done split.closure (λ x b q h. search rules)) in
+    ap (λ s. s.now) c.unwrap_or.ensures ∙ pointed c.nth.result _ ∙ ap (λ o. unwrap_or o []) nth ∙ unwrap_or-slice_get (slice_split (λ b. b == 9) c.args.line.now) c.args.index []

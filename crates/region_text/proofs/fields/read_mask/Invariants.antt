@@ -1,7 +1,0 @@
-use Rattle.std.proofs.Common.{◌≡◌, ◌<◌, drop}
-use Rattle.region_text.specs.Fields.{hex}
-use Rattle.region_text.proofs.Masks.{room}
-use Rattle.region_text.proofs.fields.read_mask.Given as goal
-
-abbrev pub invariant-loop-b : goal.invariant-loop-b
-invariant-loop-b l = (l.n < room l.b-index) × (hex l.n (drop l.b-index l.field) ≡ hex 0 l.field)
