@@ -92,21 +92,26 @@ joins_kept side part sh = joins_of part sh 0 0 sh.joins (main_rows side part sh)
 
 module _ {W : Type 0} (m : Meaning W) (live : Liveness) (side : Side) (part : List Row) (sh : Kept) (e : ℕ) (xs : List TermRow) (w : Walk)
     (tidy : Tidy m.commutes xs) (means : Means m.commutes xs w at_entry) where
-  pub enter_top : e ≡ 0 → Onward m.commutes xs xs w (walk_rows (basis m live) part sh 0 (main_rows side part sh)) (walk (basis m live) (assembled side part sh) e)
-  enter_top z = record {
-    symbols = at_entry;
-    follows = record { grown = kept_all m.commutes xs tidy; means = means };
-    ahead_are = sym (walk_top (basis m live) part sh side) ∙ ap (walk (basis m live) (assembled side part sh)) (sym z);
-  }
+  module _ (main : List Row) (main_is : main ≡ main_rows side part sh) where
+    pub enter_top : e ≡ 0 → Onward m.commutes xs xs w (walk_rows (basis m live) part sh 0 main) (walk (basis m live) (assembled side part sh) e)
+    enter_top z = record {
+      symbols = at_entry;
+      follows = record { grown = kept_all m.commutes xs tidy; means = means };
+      ahead_are =
+          ap (λ rs. walk_rows (basis m live) part sh 0 rs at_entry) main_is
+          ∙ sym (walk_top (basis m live) part sh side)
+          ∙ ap (walk (basis m live) (assembled side part sh)) (sym z);
+    }
 
-  pub enter_join : (j place exits : ℕ) (main piece : List Row) (ys : List TermRow) (v : Walk) → e ≡ suc j → main ≡ main_rows side part sh → Enters part sh j sh.joins main place exits
-      → piece ≡ join_rows part sh j → Does m xs w ys v (λ β. follow_all β (actions piece))
-      → Onward m.commutes xs ys v (walk_rows (basis m live) part sh exits (drop place (main_rows side part sh))) (walk (basis m live) (assembled side part sh) e)
-  enter_join j place exits main piece ys v z main-is h piece_is does = record {
-    symbols = follow_all (basis m live) (actions piece) at_entry;
-    follows = does live at_entry tidy means;
-    ahead_are =
-        ap (λ rs. walk_rows (basis m live) part sh exits (drop place (main_rows side part sh)) (follow_all (basis m live) (actions rs) at_entry)) piece_is
-        ∙ sym (walk_below (basis m live) part sh side j place exits (rw main-is at h))
-        ∙ ap (walk (basis m live) (assembled side part sh)) (sym z);
-  }
+    pub enter_join : (j place exits : ℕ) (piece rest : List Row) (ys : List TermRow) (v : Walk) → e ≡ suc j → rest ≡ drop place main → Enters part sh j sh.joins main place exits
+        → piece ≡ join_rows part sh j → Does m xs w ys v (λ β. follow_all β (actions piece))
+        → Onward m.commutes xs ys v (walk_rows (basis m live) part sh exits rest) (walk (basis m live) (assembled side part sh) e)
+    enter_join j place exits piece rest ys v z rest_is h piece_is does = record {
+      symbols = follow_all (basis m live) (actions piece) at_entry;
+      follows = does live at_entry tidy means;
+      ahead_are =
+          ap (λ rs. walk_rows (basis m live) part sh exits rs (follow_all (basis m live) (actions piece) at_entry)) (rest_is ∙ ap (drop place) main_is)
+          ∙ ap (λ rs. walk_rows (basis m live) part sh exits (drop place (main_rows side part sh)) (follow_all (basis m live) (actions rs) at_entry)) piece_is
+          ∙ sym (walk_below (basis m live) part sh side j place exits (rw main_is at h))
+          ∙ ap (walk (basis m live) (assembled side part sh)) (sym z);
+    }

@@ -1,7 +1,6 @@
 pub mod Steps
 pub mod Stops
 pub mod Entering
-pub mod Bits
 pub mod Lowest
 pub mod Matching
 pub mod Rounds

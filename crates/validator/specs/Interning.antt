@@ -1,11 +1,10 @@
 -- What numbering a term's row does to a table.
-use Rattle.std.specs.Prelude.{◌≡◌, ℕ, zero, suc, ◌+◌, ◌<◌, ◌≤◌, min, max, Bool, true, false, ◌⊎◌, List, [], ◌∷◌, ◌++◌, length, Some, None, Option, ◌==◌, slice_index, slice_index_or, refl}
+use Rattle.std.specs.Prelude.{◌≡◌, ℕ, ◌+◌, ◌<◌, ◌≤◌, min, max, Bool, true, false, ◌⊎◌, List, [], ◌∷◌, ◌++◌, length, Some, None, Option, ◌==◌, slice_index_or, refl}
 use Rattle.std.proofs.Common.{sym, ◌∙◌, ap, subst, inl, inr, arith, not-suc-le-zero}
 use Rattle.std.proofs.lemmas.Bool.{cases_lt}
 use Rattle.std.proofs.lemmas.Bool.Decides.{same_from_decides, Decides-eqb}
-use Rattle.std.proofs.lemmas.Slice.Eq.{bytes_eq-Decides}
 use Rattle.std.proofs.lemmas.List.{length_push, length-take-le}
-use Rattle.numbering.specs.Rows.{found, numbered, with_row, Equivalence}
+use Rattle.numbering.specs.Rows.{found, numbered, with_row}
 use Rattle.numbering.specs.declared.kind.Kind.{Ghosts}
 use Rattle.numbering.specs.declared.table.Table.{Table}
 use Rattle.numbering.specs.Used.{used, capacity}
@@ -17,18 +16,12 @@ use Rattle.validator.specs.declared.term_row.TermRow.TheVariants.{RegisterAtEntr
 use Rattle.validator.specs.Terms.{Term, register_at_entry, bank_at_entry, literal, operate, load, store}
 use Rattle.validator.specs.Terms as terms
 use Rattle.validator.specs.Terms.{Same, same_register, same_bank, same_literal, same_operate, same_turned, same_load, same_store}
-use Rattle.validator.specs.TermRows.{key, row_equals, row_term, denoted, MarkedRight}
+use Rattle.validator.specs.TermRows.{ordered, row_equals, row_term, denoted, MarkedRight}
 use Rattle.validator.specs.Tidy.{Tidy, Names, Grown, Says, Interned}
-use Rattle.validator.specs.Same.{numbered as op_numbered, numbered_back, same_refl, same_sym, same_trans, test_so_same, same_so_test}
+use Rattle.validator.specs.Same.{same_refl, same_sym, same_trans, test_so_same, same_so_test}
+use Rattle.validator.specs.Equal.{equal_decides, equivalence}
 use Rattle.validator.specs.Unique.{unique}
 use Rattle.validator.specs.Grown.{grown, stays, newest, at_row}
-
-pub equivalence : Equivalence row_equals
-equivalence = record {
-  reflexive = λ x. (bytes_eq-Decides (key x) (key x)).1 refl;
-  symmetric = λ x y h. (bytes_eq-Decides (key y) (key x)).1 (sym ((bytes_eq-Decides (key x) (key y)).0 h));
-  transitive = λ x y z h k. (bytes_eq-Decides (key x) (key z)).1 ((bytes_eq-Decides (key x) (key y)).0 h ∙ (bytes_eq-Decides (key y) (key z)).0 k);
-}
 
 -- a table has as many rows in use as it counts
 pub used_length : {kind : Ghosts TermRow} (t : Table TermRow kind) → length (used t) ≡ t.len
@@ -46,41 +39,28 @@ number_inside t r o n p q =
     (λ f l g. none_is_some n g)
     (sym p ∙ q)
 
--- the term that a key says
-abbrev pick : (ℕ → Term) → ℕ → ℕ → ℕ → ℕ → Term
-pick term zero p q r = register_at_entry p
-pick term (suc zero) p q r = bank_at_entry p
-pick term (suc (suc zero)) p q r = literal p
-pick term (suc (suc (suc zero))) p q r = operate (op_numbered p) (term q) (term r)
-pick term (suc (suc (suc (suc zero)))) p q r = operate (op_numbered p) (term q) (term r)
-pick term (suc (suc (suc (suc (suc zero))))) p q r = load (term p) (term q)
-pick term (suc (suc (suc (suc (suc (suc n)))))) p q r = store (term p) (term q) (term r)
-
-abbrev key_term : (ℕ → Term) → List ℕ → Term
-key_term term k = pick term (slice_index k 0) (slice_index k 1) (slice_index k 2) (slice_index k 3)
-
 module _ (c : Op → Bool) (term : ℕ → Term) where
-  ordered : (o : Op) (a b : ℕ) → c o ≡ true → Same c (operate o (term a) (term b)) (operate o (term (min a b)) (term (max a b)))
-  ordered o a b e = go (cases_lt a b)
+  in_order : (o : Op) (a b : ℕ) → c o ≡ true → Same c (operate o (term a) (term b)) (operate o (term (min a b)) (term (max a b)))
+  in_order o a b e = go (cases_lt a b)
     where
       go : (a < b) ⊎ (b ≤ a) → Same c (operate o (term a) (term b)) (operate o (term (min a b)) (term (max a b)))
       go (inl l) = let p : min a b ≡ a = omega arith in let q : max a b ≡ b = omega arith in rw (p, q) (same_refl c _)
       go (inr l) = let p : min a b ≡ b = omega arith in let q : max a b ≡ a = omega arith in rw (p, q) (same_turned o e (same_refl c _) (same_refl c _))
 
-  by_key : (r : TermRow) → MarkedRight c r → Same c (row_term term r) (key_term term (key r))
-  by_key (RegisterAtEntry i) f = same_register i
-  by_key (BankAtEntry k) f = same_bank k
-  by_key (Literal n) f = same_literal n
-  by_key (Operate o true a b) f = rw (numbered_back o) (ordered o a b (sym f))
-  by_key (Operate o false a b) f = rw (numbered_back o) (same_refl c _)
-  by_key (Load k a) f = same_load (same_refl c _) (same_refl c _)
-  by_key (Store k a v) f = same_store (same_refl c _) (same_refl c _) (same_refl c _)
+  -- order changes no term
+  as_ordered : (r : TermRow) → MarkedRight c r → Same c (row_term term r) (row_term term (ordered r))
+  as_ordered (RegisterAtEntry i) f = same_refl c _
+  as_ordered (BankAtEntry k) f = same_refl c _
+  as_ordered (Literal n) f = same_refl c _
+  as_ordered (Operate o true a b) f = in_order o a b (sym f)
+  as_ordered (Operate o false a b) f = same_refl c _
+  as_ordered (Load k a) f = same_refl c _
+  as_ordered (Store k a v) f = same_refl c _
 
   -- equal rows say the same term
   equal_rows : (r s : TermRow) → MarkedRight c r → MarkedRight c s → row_equals r s ≡ true → Same c (row_term term r) (row_term term s)
   equal_rows r s f g h =
-      let e = (bytes_eq-Decides (key r) (key s)).0 h in
-      same_trans c (by_key r f) (subst (λ (k : List ℕ). Same c (key_term term k) (row_term term s)) (sym e) (same_sym c (by_key s g)))
+      same_trans c (as_ordered r f) (subst (λ (o : TermRow). Same c (row_term term o) (row_term term s)) (sym ((equal_decides r s).0 h)) (same_sym c (as_ordered s g)))
 
 module _ (c : Op → Bool) where
   pub tidy_none : Tidy c []

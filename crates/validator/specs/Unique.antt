@@ -1,21 +1,21 @@
 -- In a table of distinct rows two numbers are one exactly where their terms are the same.
-use Rattle.std.specs.Prelude.{◌≡◌, ℕ, zero, suc, ◌<◌, min, max, Bool, true, false, ◌⊎◌, List, [], ◌∷◌, length, slice_index_or, refl}
+use Rattle.std.specs.Prelude.{◌≡◌, ℕ, zero, suc, ◌<◌, min, max, Bool, true, false, ◌⊎◌, List, length, slice_index_or, refl}
 use Rattle.std.proofs.Common.{◌∙◌, ap, inl, inr, arith, not-suc-le-zero}
 use Rattle.std.proofs.lemmas.Bool.{both_ways}
-use Rattle.std.proofs.lemmas.Slice.Eq.{bytes_eq-Decides}
 use Rattle.numbering.specs.Rows.{Distinct}
 use Rattle.domain.specs.declared.op.Op.{Op}
 use Rattle.validator.specs.declared.term_row.TermRow.{TermRow}
 use Rattle.validator.specs.declared.term_row.TermRow.TheVariants.{RegisterAtEntry, BankAtEntry, Literal, Operate, Load, Store}
-use Rattle.validator.specs.Terms.{Term, register_at_entry, bank_at_entry, literal, operate, load, store, number}
+use Rattle.validator.specs.Terms.{Term, register_at_entry, bank_at_entry, literal, operate, load, store}
 use Rattle.validator.specs.Terms.{Same, same_register, same_bank, same_literal, same_operate, same_turned, same_load, same_store}
-use Rattle.validator.specs.TermRows.{key, operate_key, row_equals, row_term, denote, NamesBelow, MarkedRight, WellFormed}
+use Rattle.validator.specs.TermRows.{ordered, row_equals, row_term, denote, NamesBelow, MarkedRight, WellFormed}
+use Rattle.validator.specs.Equal.{equal_decides}
 use Rattle.validator.specs.Tidy.{Names, OneTerm}
 use Rattle.validator.specs.Same.{same_sym, same_trans}
 
-swap_key : (e : Bool) (k a b : ℕ) → e ≡ true → operate_key e k a b ≡ operate_key e k b a
-swap_key true k a b t = let p : min a b ≡ min b a = omega arith in let q : max a b ≡ max b a = omega arith in cc
-swap_key false k a b t = absurd (both_ways false refl t)
+turned : (o : Op) (e : Bool) (a b : ℕ) → e ≡ true → ordered (Operate o e a b) ≡ ordered (Operate o e b a)
+turned o true a b t = let p : min a b ≡ min b a = omega arith in let q : max a b ≡ max b a = omega arith in cc
+turned o false a b t = absurd (both_ways false refl t)
 
 module _ {c : Op → Bool} where
   inv_register : {i j : ℕ} → Same c (register_at_entry i) (register_at_entry j) → i ≡ j
@@ -39,22 +39,22 @@ module _ {c : Op → Bool} where
   inv_store (same_store p q r) = (p, q, r)
 
 module _ (c : Op → Bool) (D : ℕ → Term) (N M : ℕ) (one : (a b : ℕ) → a < N → b < M → Same c (D a) (D b) → a ≡ b) where
-  agree : (r s : TermRow) → NamesBelow N r → NamesBelow M s → MarkedRight c r → MarkedRight c s → Same c (row_term D r) (row_term D s) → key r ≡ key s
-  agree (RegisterAtEntry i) (RegisterAtEntry i') u v f g h = ap (λ x. 0 ∷ x ∷ 0 ∷ 0 ∷ []) (inv_register h)
+  agree : (r s : TermRow) → NamesBelow N r → NamesBelow M s → MarkedRight c r → MarkedRight c s → Same c (row_term D r) (row_term D s) → ordered r ≡ ordered s
+  agree (RegisterAtEntry i) (RegisterAtEntry i') u v f g h = ap RegisterAtEntry (inv_register h)
   agree (RegisterAtEntry i) (BankAtEntry k') u v f g h = elim h [ ]
   agree (RegisterAtEntry i) (Literal n') u v f g h = elim h [ ]
   agree (RegisterAtEntry i) (Operate o' e' a' b') u v f g h = elim h [ ]
   agree (RegisterAtEntry i) (Load m' a') u v f g h = elim h [ ]
   agree (RegisterAtEntry i) (Store m' a' w') u v f g h = elim h [ ]
   agree (BankAtEntry k) (RegisterAtEntry i') u v f g h = elim h [ ]
-  agree (BankAtEntry k) (BankAtEntry k') u v f g h = ap (λ x. 1 ∷ x ∷ 0 ∷ 0 ∷ []) (inv_bank h)
+  agree (BankAtEntry k) (BankAtEntry k') u v f g h = ap BankAtEntry (inv_bank h)
   agree (BankAtEntry k) (Literal n') u v f g h = elim h [ ]
   agree (BankAtEntry k) (Operate o' e' a' b') u v f g h = elim h [ ]
   agree (BankAtEntry k) (Load m' a') u v f g h = elim h [ ]
   agree (BankAtEntry k) (Store m' a' w') u v f g h = elim h [ ]
   agree (Literal n) (RegisterAtEntry i') u v f g h = elim h [ ]
   agree (Literal n) (BankAtEntry k') u v f g h = elim h [ ]
-  agree (Literal n) (Literal n') u v f g h = ap (λ x. 2 ∷ x ∷ 0 ∷ 0 ∷ []) (inv_literal h)
+  agree (Literal n) (Literal n') u v f g h = ap Literal (inv_literal h)
   agree (Literal n) (Operate o' e' a' b') u v f g h = elim h [ ]
   agree (Literal n) (Load m' a') u v f g h = elim h [ ]
   agree (Literal n) (Store m' a' w') u v f g h = elim h [ ]
@@ -70,7 +70,7 @@ module _ (c : Op → Bool) (D : ℕ → Term) (N M : ℕ) (one : (a b : ℕ) →
             let p = one a b' u.0 v.1 w.1 in
             let q = one b a' u.1 v.0 w.2 in
             let t : e ≡ true = f ∙ w.0 in
-            let s = swap_key e (number o) a b t in
+            let s = turned o e a b t in
             cc
       ]
   agree (Operate o e a b) (Load m' a') u v f g h = elim h [ ]
@@ -93,7 +93,7 @@ module _ (c : Op → Bool) (xs : List TermRow) (wf : WellFormed c xs) (ds : Dist
   one_from zero i j l m _ _ h = absurd (not-suc-le-zero l)
   one_from (suc f) i j l m li lj h =
       ds i j (Literal 0) li lj
-      ((bytes_eq-Decides (key (slice_index_or xs i (Literal 0))) (key (slice_index_or xs j (Literal 0)))).1
+      ((equal_decides (slice_index_or xs i (Literal 0)) (slice_index_or xs j (Literal 0))).1
       (agree c (denote f xs) i j (λ a b p q s. one_from f a b (omega arith) (omega arith) (omega arith) (omega arith) s)
       (slice_index_or xs i (Literal 0)) (slice_index_or xs j (Literal 0)) (wf.below i li) (wf.below j lj) (wf.marks i li) (wf.marks j lj) h))
 
