@@ -19,7 +19,7 @@ use Rattle.validator.specs.Walks.{Basis, basis, Symbols, Stop, at_entry, follow,
 use Rattle.validator.specs.Tidy.{Tidy, Names, Interned}
 use Rattle.validator.specs.Straight.{walk_rows}
 use Rattle.validator.specs.Means.{Marked, none, Means, Named, Begun, Liveness, Does, Onward}
-use Rattle.validator.specs.Interning.{tidy_none, kept_all, grown_then}
+use Rattle.validator.proofs.Interning.{tidy_none, kept_all, grown_then}
 
 module _ (c : Op → Bool) where
   pub named_none : (xs : List TermRow) (ns : List ℕ) (f : ℕ → Term) → Tidy c xs → Named c xs xs ns f 0

@@ -1,3 +1,7 @@
+pub mod Same
+pub mod Grown
+pub mod Unique
+pub mod Interning
 pub mod Steps
 pub mod Stops
 pub mod Entering

@@ -20,7 +20,7 @@ use Rattle.validator.specs.Live.{bit, live_in}
 use Rattle.validator.specs.Tidy.{Tidy, Names}
 use Rattle.validator.specs.Means.{Marked, none, more, StopMeans, ConditionMeans}
 use Rattle.validator.specs.Numbers.{live_mask, conditions_differ, numbers_differ}
-use Rattle.validator.specs.Interning.{same_by_number}
+use Rattle.validator.proofs.Interning.{same_by_number}
 use Rattle.validator.proofs.Lowest.{lowest_cong}
 
 unmarked : (m n : ℕ) → get_or (replicate m false) n false ≡ false

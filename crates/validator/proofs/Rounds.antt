@@ -26,7 +26,7 @@ use Rattle.validator.specs.Means.{Means, Begun, ConditionMeans, StopMeans, Stopp
 use Rattle.validator.specs.Held.{held}
 use Rattle.validator.specs.Walkers.{entry_differs}
 use Rattle.validator.specs.Numbers.{live_mask, conditions_differ, numbers_differ}
-use Rattle.validator.specs.Interning.{used_length}
+use Rattle.validator.proofs.Interning.{used_length}
 use Rattle.validator.proofs.Steps.{means_kept}
 use Rattle.validator.proofs.Lowest.{first_below_none, first_below_at}
 use Rattle.validator.proofs.Matching.{differ_match}

@@ -22,7 +22,7 @@ use Rattle.validator.specs.Walks.{basis, Symbols, Stop, follow, follow_all}
 use Rattle.validator.specs.Tidy.{Tidy}
 use Rattle.validator.specs.Straight.{walk_rows}
 use Rattle.validator.specs.Means.{Means, Liveness, Does, Leaves, Onward, Stopped, ConditionMeans, behind}
-use Rattle.validator.specs.Interning.{kept_all, grown_then}
+use Rattle.validator.proofs.Interning.{kept_all, grown_then}
 use Rattle.validator.proofs.Steps.{means_kept}
 
 -- the piece of an exit needs no more room than was kept for it: beyond the eighth exit there is none

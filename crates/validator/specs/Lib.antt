@@ -12,7 +12,3 @@ pub mod Means
 pub mod Held
 pub mod Walkers
 pub mod Numbers
-pub mod Interning
-pub mod Same
-pub mod Unique
-pub mod Grown

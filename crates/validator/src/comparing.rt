@@ -71,12 +71,12 @@ impl Pair<'_> {
     fn first_mismatch<D: Domain>(&self, rows: &mut [TermRow; TERM_ROWS]) -> Option<Mismatch>
         ensures { result ≡ mismatch_of (basis D.meaning (live_in self.now.labels.now)) (line_of self.now.source) (line_of self.now.schedule) }
     {
-        let joins = self.source.shape.joins() as u8;
-        if joins as usize != self.schedule.shape.joins() {
+        let joins = self.source.shape.joins();
+        if self.schedule.shape.joins() != joins {
             return Some(At { from: 0, stop: 0 }.mismatch(Reason::Joins, 0));
         }
         // No `find_map`: its contract does not say that None comes last where the closure writes, as here to the rows.
-        for entry in 0..=joins {
+        for entry in 0..=joins as u8 {
             let mismatch = self.differ_from::<D>(rows, entry);
             if mismatch.is_some() {
                 return mismatch;

@@ -1,5 +1,5 @@
 use Rattle.std.proofs.Common.{arith}
-use Rattle.validator.specs.Interning.{interned, number_inside}
+use Rattle.validator.proofs.Interning.{interned, number_inside}
 use Rattle.validator.proofs.terms.Terms.intern.Goals as goal
 
 pub overflow_cast-result : goal.overflow_cast-result

@@ -1,6 +1,6 @@
 use Rattle.std.proofs.Common.{refl}
 use Rattle.validator.specs.Terms.{register_at_entry, bank_at_entry}
-use Rattle.validator.specs.Interning.{says_register, says_bank}
+use Rattle.validator.proofs.Interning.{says_register, says_bank}
 use Rattle.validator.proofs.Entering.{begun}
 use Rattle.validator.proofs.walk.Walk.at_entry.Goals as goal
 

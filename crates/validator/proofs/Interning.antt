@@ -18,10 +18,10 @@ use Rattle.validator.specs.Terms as terms
 use Rattle.validator.specs.Terms.{Same, same_register, same_bank, same_literal, same_operate, same_turned, same_load, same_store}
 use Rattle.validator.specs.TermRows.{ordered, row_equals, row_term, denoted, MarkedRight}
 use Rattle.validator.specs.Tidy.{Tidy, Names, Grown, Says, Interned}
-use Rattle.validator.specs.Same.{same_refl, same_sym, same_trans, test_so_same, same_so_test}
+use Rattle.validator.proofs.Same.{same_refl, same_sym, same_trans, test_so_same, same_so_test}
 use Rattle.validator.specs.Equal.{equal_decides, equivalence}
-use Rattle.validator.specs.Unique.{unique}
-use Rattle.validator.specs.Grown.{grown, stays, newest, at_row}
+use Rattle.validator.proofs.Unique.{unique}
+use Rattle.validator.proofs.Grown.{grown, stays, newest, at_row}
 
 -- a table has as many rows in use as it counts
 pub used_length : {kind : Ghosts TermRow} (t : Table TermRow kind) → length (used t) ≡ t.len

@@ -11,7 +11,7 @@ use Rattle.validator.specs.Terms.{Same, same_register, same_bank, same_literal, 
 use Rattle.validator.specs.TermRows.{ordered, row_equals, row_term, denote, NamesBelow, MarkedRight, WellFormed}
 use Rattle.validator.specs.Equal.{equal_decides}
 use Rattle.validator.specs.Tidy.{Names, OneTerm}
-use Rattle.validator.specs.Same.{same_sym, same_trans}
+use Rattle.validator.proofs.Same.{same_sym, same_trans}
 
 turned : (o : Op) (e : Bool) (a b : ℕ) → e ≡ true → ordered (Operate o e a b) ≡ ordered (Operate o e b a)
 turned o true a b t = let p : min a b ≡ min b a = omega arith in let q : max a b ≡ max b a = omega arith in cc
