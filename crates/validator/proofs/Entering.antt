@@ -1,5 +1,5 @@
 -- Where walks begin, and the places that main rows make.
-use Rattle.std.proofs.Common.{◌≡◌, ℕ, zero, suc, ◌+◌, ◌-◌, ◌<◌, ◌≤◌, Bool, false, ◌≢◌, ◌⊎◌, List, [], ◌∷◌, length, get_or, drop, set, replicate, Some, None, sym, refl, ap, ◌∙◌, subst, inl, inr, not-suc-le-zero, arith}
+use Rattle.std.proofs.Common.{◌≡◌, ℕ, zero, suc, ◌+◌, ◌-◌, ◌<◌, ◌≤◌, Bool, false, ◌≢◌, ◌⊎◌, List, [], ◌∷◌, length, get_or, drop, set, replicate, Some, None, sym, refl, ap, ◌∙◌, subst, inl, inr, arith}
 use Rattle.std.proofs.lemmas.Bool.{cases_lt}
 use Rattle.std.proofs.lemmas.List.{get_or-set_same, get_or-set_other}
 use Rattle.domain.specs.declared.op.Op.{Op}
@@ -22,9 +22,6 @@ use Rattle.validator.specs.Means.{Marked, none, Means, Named, Begun, Liveness, D
 use Rattle.validator.proofs.Interning.{tidy_none, kept_all, grown_then}
 
 module _ (c : Op → Bool) where
-  pub named_none : (xs : List TermRow) (ns : List ℕ) (f : ℕ → Term) → Tidy c xs → Named c xs xs ns f 0
-  named_none xs ns f t = record { grown = kept_all c xs t; names = λ j l. absurd (not-suc-le-zero l) }
-
   pub named_more : (xs ys zs : List TermRow) (ns : List ℕ) (f : ℕ → Term) (i n : ℕ) → i < length ns → Named c xs ys ns f i → Interned c ys zs n (f i)
       → Named c xs zs (set ns i n) f (i + 1)
   named_more xs ys zs ns f i n l p q = record { grown = grown_then c xs ys zs p.grown q.grown; names = λ j m. go j m (cases_lt j i) }

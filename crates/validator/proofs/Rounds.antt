@@ -58,10 +58,6 @@ module _ {W : Type 0} (m : Meaning W) (labels : List LabelRow) where
     pub b_means : Means m.commutes xs v b
     pub so_far : stops_differ (basis m (live_in labels)) e n (f a) (g b) ≡ goal
 
-  pub going : (xs : List TermRow) (w v : Walk) (f g : Symbols → List Stop) (e : ℕ) (s t : Symbols) → Tidy m.commutes xs → Means m.commutes xs w s → Means m.commutes xs v t
-      → Going xs w v f g e 1 (stops_differ (basis m (live_in labels)) e 1 (f s) (g t))
-  going xs w v f g e s t tidy p q = record { tidy = tidy; a = s; b = t; a_means = p; b_means = q; so_far = refl }
-
   condition_kept : (xs ys : List TermRow) → Kept m.commutes xs ys → (a : Option ℕ) (t : Option Term) → ConditionMeans m.commutes xs a t → ConditionMeans m.commutes ys a t
   condition_kept xs ys k None None p = tt
   condition_kept xs ys k None (Some t) p = p

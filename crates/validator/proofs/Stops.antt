@@ -1,6 +1,5 @@
 -- A walk over main rows, row by row.
-use Rattle.std.proofs.Common.{◌≡◌, ℕ, ◌+◌, ◌-◌, ◌*◌, ◌<◌, ◌≤◌, Bool, ◌⊎◌, List, ◌∷◌, length, get_or, Some, None, Option, sym, refl, ap, ◌∙◌, inl, inr, arith}
-use Rattle.std.proofs.lemmas.Bool.{cases_lt}
+use Rattle.std.proofs.Common.{◌≡◌, ℕ, ◌+◌, Bool, List, ◌∷◌, length, get_or, Some, None, Option, sym, refl, ap, ◌∙◌}
 use Rattle.std.proofs.lemmas.List.{nil_from_length}
 use Rattle.domain.specs.declared.op.Op.{Op}
 use Rattle.domain.specs.Meaning.{Meaning}
@@ -9,30 +8,18 @@ use Rattle.region.specs.declared.numbers.Register.{Register}
 use Rattle.region.specs.declared.row.Action.{Action}
 use Rattle.region.specs.declared.row.Row.{Row}
 use Rattle.region.specs.declared.row.Row.TheVariants.{Act, Exit, Join}
-use Rattle.region.specs.declared.shape.Shape.{Shape}
-use Rattle.region.specs.Kept.{Kept, kept}
+use Rattle.region.specs.Kept.{Kept}
 use Rattle.region.specs.Layout.{exit_rows}
 use Rattle.region.specs.Rows.{actions}
-use Rattle.region.proofs.Pieces.{no_exit_rows}
 use Rattle.validator.specs.declared.term_row.TermRow.{TermRow}
 use Rattle.validator.specs.declared.walk.Walk.{Walk}
 use Rattle.validator.specs.declared.walk.Reached.{Reached}
 use Rattle.validator.specs.Terms.{Term}
 use Rattle.validator.specs.Walks.{basis, Symbols, Stop, follow, follow_all}
-use Rattle.validator.specs.Tidy.{Tidy}
 use Rattle.validator.specs.Straight.{walk_rows}
-use Rattle.validator.specs.Means.{Means, Liveness, Does, Leaves, Onward, Stopped, ConditionMeans, behind}
-use Rattle.validator.proofs.Interning.{kept_all, grown_then}
+use Rattle.validator.specs.Means.{Liveness, Does, Leaves, Onward, Stopped, ConditionMeans, behind}
+use Rattle.validator.proofs.Interning.{grown_then}
 use Rattle.validator.proofs.Steps.{means_kept}
-
--- the piece of an exit needs no more room than was kept for it: beyond the eighth exit there is none
-pub piece_fits : (part : List Row) (sh : Shape) (k : ℕ) (piece : List Row) → piece ≡ exit_rows part (kept sh) k → length piece ≤ 16
-    → length piece + 16 * (8 - (k + 1)) ≤ 16 * (8 - k)
-piece_fits part sh k piece e few = go (cases_lt k 8)
-  where
-    go : (k < 8) ⊎ (8 ≤ k) → length piece + 16 * (8 - (k + 1)) ≤ 16 * (8 - k)
-    go (inl l) = omega arith
-    go (inr l) = omega (arith, ap length (e ∙ sym (no_exit_rows sh k part l)))
 
 -- a stop that has a condition is not the last
 goes_on : (c : Op → Bool) (xs : List TermRow) (o : Option ℕ) (t : Term) (stops : List Stop) → ConditionMeans c xs o (Some t) → stops ≡ behind o stops
@@ -50,10 +37,6 @@ module _ {W : Type 0} (m : Meaning W) (live : Liveness) (part : List Row) (sh : 
   -- the stops of main rows with k exits above them
   abbrev stops_of : List Row → Symbols → List Stop
   stops_of rows = walk_rows (basis m live) part sh k rows
-
-  pub starts : (xs : List TermRow) (w : Walk) (rows : List Row) (s : Symbols) → Tidy m.commutes xs → Means m.commutes xs w s
-      → Onward m.commutes xs xs w (walk_rows (basis m live) part sh k rows) (walk_rows (basis m live) part sh k rows s)
-  starts xs w rows s tidy h = record { symbols = s; follows = record { grown = kept_all m.commutes xs tidy; means = h }; ahead_are = refl }
 
   module _ (xs ys : List TermRow) (w : Walk) (stops : List Stop) (rows : List Row)
       (on : Onward m.commutes xs ys w (walk_rows (basis m live) part sh k rows) stops) where

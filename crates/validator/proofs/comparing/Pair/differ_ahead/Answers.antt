@@ -1,15 +1,8 @@
 use Rattle.std.proofs.Common.{arith, rules}
 use Rattle.validator.specs.Live.{live_in}
-use Rattle.validator.proofs.Rounds.{held_few, going, mismatched, ended, onward}
+use Rattle.validator.proofs.Rounds.{held_few, mismatched, ended, onward}
 use Rattle.validator.proofs.comparing.Pair.differ_ahead.Goals as goal
 use Rattle.validator.proofs.comparing.Pair.differ_ahead.Goals.{then-is_some-via-then-is_some, then-is_some-via-else-is_some+then-is_none}
-
-pub loop-stop-init : goal.loop-stop-init
-loop-stop-init g c = record {
-  room = omega arith;
-  stops = omega (arith, c.args.source.few);
-  going = λ s t tidy p q. going g.D.Domain.meaning c.args.self.now.labels.now _ _ _ _ _ _ s t tidy p q;
-}
 
 pub returns-then-is_some : goal.returns-then-is_some
 returns-then-is_some g c s t tidy p q =

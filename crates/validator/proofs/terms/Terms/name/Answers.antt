@@ -1,12 +1,9 @@
-use Rattle.std.proofs.Common.{◌≡◌, ℕ, ◌∙◌, subst, arith, rules}
-use Rattle.std.proofs.lemmas.List.{length-set, length-replicate}
+use Rattle.std.proofs.Common.{◌≡◌, ℕ, ◌∙◌, subst, arith}
+use Rattle.std.proofs.lemmas.List.{length-set}
 use Rattle.validator.specs.Held.{held}
 use Rattle.validator.specs.Means.{Named}
-use Rattle.validator.proofs.Entering.{named_none, named_more}
+use Rattle.validator.proofs.Entering.{named_more}
 use Rattle.validator.proofs.terms.Terms.name.Goals as goal
-
-pub loop-i-init : goal.loop-i-init
-loop-i-init g c = record { few = omega arith; long = length-replicate g.row.N 0; named = λ d f says t. named_none d _ _ f t }
 
 pub loop-i-preserved : goal.loop-i-preserved
 loop-i-preserved g c =
@@ -19,11 +16,7 @@ loop-i-preserved g c =
           named_more d _ _ _ _ f _ _ (omega (arith, before.long)) p (c.intern.ensures.interned d _ p.grown.tidy (says _ _ _ c.row.ensures));
     }
 
-pub returns : goal.returns
-returns g c =
+pub returns-clause-named : goal.returns-clause-named
+returns-clause-named g c d f says t =
     let e : c.loop-i.i ≡ g.row.N = omega arith in
-    record {
-      few = search rules;
-      long = c.loop-i.invariant.long;
-      named = λ d f says t. subst (λ (n : ℕ). Named d (held c.args.self.now) (held c.loop-i.self) c.loop-i.number-items f n) e (c.loop-i.invariant.named d f says t);
-    }
+    subst (λ (n : ℕ). Named d (held c.args.self.now) (held c.loop-i.self) c.loop-i.number-items f n) e (c.loop-i.invariant.named d f says t)

@@ -1,11 +1,8 @@
 use Rattle.std.proofs.Common.{ap, arith}
 use Rattle.validator.specs.Held.{held}
-use Rattle.validator.proofs.Steps.{does_nothing, one_action, passed_over, all_rows}
+use Rattle.validator.proofs.Steps.{one_action, passed_over, all_rows}
 use Rattle.validator.proofs.walk.Walk.acts.Goals as goal
 use Rattle.validator.proofs.walk.Walk.acts.Goals.{in-Act, in_default}
-
-pub loop-row-init : goal.loop-row-init
-loop-row-init g c = (omega arith, does_nothing g.D.Domain.meaning _ _)
 
 pub loop-row-preserved : goal.loop-row-preserved
 loop-row-preserved g c =
@@ -20,8 +17,5 @@ loop-row-preserved g c =
       )
     ]
 
-pub returns : goal.returns
-returns g c = record {
-  few = omega (arith, c.loop-row.invariant.0);
-  acts = all_rows g.D.Domain.meaning _ _ _ _ _ _ c.loop-row-test.false c.loop-row.invariant.1;
-}
+pub returns-clause-acts : goal.returns-clause-acts
+returns-clause-acts g c = all_rows g.D.Domain.meaning _ _ _ _ _ _ c.loop-row-test.false c.loop-row.invariant.1

@@ -6,21 +6,14 @@ use Rattle.region.specs.Kept.{kept}
 use Rattle.validator.proofs.Entering.{enter_top, enter_join}
 use Rattle.validator.proofs.walking.Walker.enter.Goals as goal
 
-pub returns-then-entry-eq0 : goal.returns-then-entry-eq0
-returns-then-entry-eq0 g c =
+pub returns-then-entry-eq0-clause-onward : goal.returns-then-entry-eq0-clause-onward
+returns-then-entry-eq0-clause-onward g c live tidy h =
     let line = c.args.line in
-    record {
-      few = omega arith;
-      onward = λ live tidy h. enter_top g.D.Domain.meaning live line.side (rows_of line.part) (kept line.shape) c.args.entry _ _ tidy h _ c.main-main.ensures.rows c.if-entry-eq0.true;
-    }
+    enter_top g.D.Domain.meaning live line.side (rows_of line.part) (kept line.shape) c.args.entry _ _ tidy h _ c.main-main.ensures.rows c.if-entry-eq0.true
 
-pub returns : goal.returns
-returns g c =
+pub returns-clause-onward : goal.returns-clause-onward
+returns-clause-onward g c live tidy h =
     let line = c.args.line in
-    record {
-      few = omega (arith, c.acts.ensures.few, c.join_piece.ensures.few);
-      onward = λ live tidy h.
-          enter_join g.D.Domain.meaning live line.side (rows_of line.part) (kept line.shape) c.args.entry _ _ tidy h _ c.main-main.ensures.rows
-          (c.args.entry - 1) _ _ _ _ _ _ (omega arith) (take_all _ _ (omega (arith, length-drop {A = Row})))
-          (c.below-place.ensures.entered (rows_of line.part) (kept line.shape) line.shape.joins (omega arith)) c.join_piece.ensures.rows c.acts.ensures.acts;
-    }
+    enter_join g.D.Domain.meaning live line.side (rows_of line.part) (kept line.shape) c.args.entry _ _ tidy h _ c.main-main.ensures.rows
+    (c.args.entry - 1) _ _ _ _ _ _ (omega arith) (take_all _ _ (omega (arith, length-drop {A = Row})))
+    (c.below-place.ensures.entered (rows_of line.part) (kept line.shape) line.shape.joins (omega arith)) c.join_piece.ensures.rows c.acts.ensures.acts
