@@ -61,13 +61,6 @@ fn differ_traps(x: &Walk, y: &Walk, at: At) -> Option<Mismatch>
     (x.traps != y.traps).then_some(at.mismatch(Reason::Traps, 0))
 }
 
-// The live mask of a label.
-fn live_at(labels: &[LabelRow; REGION_LABELS], label: LabelNumber) -> u16
-    ensures { result ≡ live_mask labels.now label }
-{
-    labels[label.get()].live
-}
-
 /// What differs first between two stops.
 pub(crate) fn differ(
     x: &Reached,
@@ -77,7 +70,7 @@ pub(crate) fn differ(
 ) -> Option<Mismatch>
     ensures { result ≡ numbers_differ at.from at.stop (live_mask labels.now x.now.label) x.now y.now }
 {
-    let live = live_at(labels, x.label);
+    let live = labels[x.label.get()].live;
     differ_conditions(x.condition, y.condition, at)
         .or(differ_labels(x.label, y.label, at))
         .or(differ_registers(&x.walk, &y.walk, live, at))
