@@ -3,8 +3,7 @@ use Rattle.std.proofs.Common.{◌≡◌, ℕ, ◌+◌, Bool, List, ◌∷◌, le
 use Rattle.std.proofs.lemmas.List.{nil_from_length}
 use Rattle.domain.specs.declared.op.Op.{Op}
 use Rattle.domain.specs.Meaning.{Meaning}
-use Rattle.region.specs.declared.numbers.LabelNumber.{LabelNumber}
-use Rattle.region.specs.declared.numbers.Register.{Register}
+use Rattle.region.specs.Numbers.{LabelNumber, Register}
 use Rattle.region.specs.declared.row.Action.{Action}
 use Rattle.region.specs.declared.row.Row.{Row}
 use Rattle.region.specs.declared.row.Row.TheVariants.{Act, Exit, Join}

@@ -3,7 +3,7 @@ use Rattle.std.specs.Prelude.{ℕ, Bool, true, not, ◌&&◌, List, Some, None, 
 use Rattle.std.specs.Bool.{beq}
 use Rattle.std.specs.Cmp.Lexicographic.{pointwise}
 use Rattle.region.specs.declared.label.LabelRow.{LabelRow}
-use Rattle.region.specs.declared.numbers.LabelNumber.{LabelNumber}
+use Rattle.region.specs.Numbers.{LabelNumber}
 use Rattle.region.specs.Labels.{unused}
 use Rattle.validator.specs.declared.verdict.Mismatch.{Mismatch}
 use Rattle.validator.specs.declared.verdict.Reason.TheVariants as reason
