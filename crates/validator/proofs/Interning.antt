@@ -33,11 +33,11 @@ used_length t = length-take-le t.len t.rows.now t.inside
 pub number_inside : (t : Terms) (r : TermRow) (o : Option ℕ) (n : ℕ) → o ≡ numbered row_equals (capacity t.table) (held t) r → o ≡ Some n → n < 512
 number_inside t r o n p q =
     let inside : n < capacity t.table =
-        by_ways row_equals (capacity t.table) (held t) r (λ a after. a ≡ Some n → n < capacity t.table)
-        (λ i f g. let i_is : i ≡ n = cc in omega (arith, (found_is row_equals r (held t) i r f).0, used_length t.table, t.table.inside))
-        (λ f l g. let n_is : length (held t) ≡ n = cc in omega arith)
-        (λ f l g. none_is_some n g)
-        (sym p ∙ q)
+    by_ways row_equals (capacity t.table) (held t) r (λ a after. a ≡ Some n → n < capacity t.table)
+    (λ i f g. let i_is : i ≡ n = cc in omega (arith, (found_is row_equals r (held t) i r f).0, used_length t.table, t.table.inside))
+    (λ f l g. let n_is : length (held t) ≡ n = cc in omega arith)
+    (λ f l g. none_is_some n g)
+    (sym p ∙ q)
     in
     omega (arith, t.room)
 

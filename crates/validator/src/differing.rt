@@ -22,7 +22,7 @@ fn differ_conditions(x: Option<u16>, y: Option<u16>, at: At) -> Option<Mismatch>
 fn differ_labels(x: LabelNumber, y: LabelNumber, at: At) -> Option<Mismatch>
     ensures { result ≡ labels_differ at.from at.stop x y }
 {
-    (x.get() != y.get()).then_some(at.mismatch(Reason::Label, 0))
+    (x != y).then_some(at.mismatch(Reason::Label, 0))
 }
 
 // Whether a register is live by a mask.

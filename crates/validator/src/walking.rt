@@ -5,7 +5,7 @@ use super::line_rows::LineRows;
 use super::terms::Terms;
 use super::walk::{Reached, Walk};
 use domain::Domain;
-use region::{Position, Row, below};
+use region::{Piece, Position, Row, below};
 
 /// A walk of a line: the main rows ahead, how many exits are above them, and the symbolic state there.
 #[derive(Drop)]
@@ -45,7 +45,7 @@ impl<'a> Walker<'a> {
         }
         let join = entry as usize - 1;
         let Position { place, exits } = below(main, join);
-        walk.acts::<D>(terms, line.part.join_piece(&line.shape, join));
+        walk.acts::<D>(terms, line.part.piece(&line.shape, Piece::OfJoin(join)));
         Walker {
             line,
             ahead: &main[place..],
@@ -66,7 +66,10 @@ impl<'a> Walker<'a> {
             match *row {
                 Row::Act(action) => self.walk.act::<D>(terms, action),
                 Row::Exit { tested, label } => {
-                    let piece = self.line.part.exit_piece(&self.line.shape, self.exits);
+                    let piece = self
+                        .line
+                        .part
+                        .piece(&self.line.shape, Piece::OfExit(self.exits));
                     self.exits += 1;
                     return self.walk.leave::<D>(terms, tested, label, piece);
                 }

@@ -16,4 +16,4 @@ returns-clause-onward g c live tidy h =
     let line = c.args.line in
     enter_join g.D.Domain.meaning live line.side (rows_of line.part) (kept line.shape) c.args.entry _ _ tidy h _ c.main-main.ensures.rows
     (c.args.entry - 1) _ _ _ _ _ _ (omega arith) (take_all _ _ (omega (arith, length-drop {A = Row})))
-    (c.below-place.ensures.entered (rows_of line.part) (kept line.shape) line.shape.joins (omega arith)) c.join_piece.ensures.rows c.acts.ensures.acts
+    (c.below-place.ensures.entered (rows_of line.part) (kept line.shape) line.shape.joins (omega arith)) c.piece.ensures.rows c.acts.ensures.acts

@@ -21,7 +21,7 @@ returns-in-Exit-clause-stopped g c live s tidy h =
     let now = c.loop-row.self in
     let first : now.ahead.now ≡ c.in-Some.row.now ∷ c.in-Some.rest.now = search rules in
     at_exit g.D.Domain.meaning live (rows_of now.line.part) (kept now.line.shape) now.exits _ _ _ _ _ (c.loop-row.invariant.onward live s tidy h)
-    _ _ first c.in-Exit.tested c.in-Exit.label _ _ _ c.in-Exit.is c.exit_piece-piece.ensures.rows c.leave.ensures.leaves
+    _ _ first c.in-Exit.tested c.in-Exit.label _ _ _ c.in-Exit.is c.piece-piece.ensures.rows c.leave.ensures.leaves
 
 pub loop-row-preserved : goal.loop-row-preserved
 loop-row-preserved g c =
