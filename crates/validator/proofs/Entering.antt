@@ -1,5 +1,5 @@
 -- Where walks begin, and the places that main rows make.
-use Rattle.std.proofs.Common.{◌≡◌, ℕ, zero, suc, ◌+◌, ◌-◌, ◌<◌, ◌≤◌, Bool, false, ◌≢◌, ◌⊎◌, List, [], ◌∷◌, length, get_or, drop, set, replicate, Some, None, sym, refl, ap, ◌∙◌, subst, inl, inr, not-suc-le-zero, arith}
+use Rattle.std.proofs.Common.{◌≡◌, ℕ, zero, suc, ◌+◌, ◌-◌, ◌<◌, ◌≤◌, Bool, false, ◌≢◌, ◌⊎◌, List, [], ◌∷◌, length, get_or, drop, set, replicate, Some, None, sym, refl, ap, ◌∙◌, subst, inl, inr, arith}
 use Rattle.std.proofs.lemmas.Bool.{cases_lt}
 use Rattle.std.proofs.lemmas.List.{get_or-set_same, get_or-set_other}
 use Rattle.domain.specs.declared.op.Op.{Op}
@@ -19,12 +19,9 @@ use Rattle.validator.specs.Walks.{Basis, basis, Symbols, Stop, at_entry, follow,
 use Rattle.validator.specs.Tidy.{Tidy, Names, Interned}
 use Rattle.validator.specs.Straight.{walk_rows}
 use Rattle.validator.specs.Means.{Marked, none, Means, Named, Begun, Liveness, Does, Onward}
-use Rattle.validator.specs.Interning.{tidy_none, kept_all, grown_then}
+use Rattle.validator.proofs.Interning.{tidy_none, kept_all, grown_then}
 
 module _ (c : Op → Bool) where
-  pub named_none : (xs : List TermRow) (ns : List ℕ) (f : ℕ → Term) → Tidy c xs → Named c xs xs ns f 0
-  named_none xs ns f t = record { grown = kept_all c xs t; names = λ j l. absurd (not-suc-le-zero l) }
-
   pub named_more : (xs ys zs : List TermRow) (ns : List ℕ) (f : ℕ → Term) (i n : ℕ) → i < length ns → Named c xs ys ns f i → Interned c ys zs n (f i)
       → Named c xs zs (set ns i n) f (i + 1)
   named_more xs ys zs ns f i n l p q = record { grown = grown_then c xs ys zs p.grown q.grown; names = λ j m. go j m (cases_lt j i) }
@@ -92,21 +89,26 @@ joins_kept side part sh = joins_of part sh 0 0 sh.joins (main_rows side part sh)
 
 module _ {W : Type 0} (m : Meaning W) (live : Liveness) (side : Side) (part : List Row) (sh : Kept) (e : ℕ) (xs : List TermRow) (w : Walk)
     (tidy : Tidy m.commutes xs) (means : Means m.commutes xs w at_entry) where
-  pub enter_top : e ≡ 0 → Onward m.commutes xs xs w (walk_rows (basis m live) part sh 0 (main_rows side part sh)) (walk (basis m live) (assembled side part sh) e)
-  enter_top z = record {
-    symbols = at_entry;
-    follows = record { grown = kept_all m.commutes xs tidy; means = means };
-    ahead_are = sym (walk_top (basis m live) part sh side) ∙ ap (walk (basis m live) (assembled side part sh)) (sym z);
-  }
+  module _ (main : List Row) (main_is : main ≡ main_rows side part sh) where
+    pub enter_top : e ≡ 0 → Onward m.commutes xs xs w (walk_rows (basis m live) part sh 0 main) (walk (basis m live) (assembled side part sh) e)
+    enter_top z = record {
+      symbols = at_entry;
+      follows = record { grown = kept_all m.commutes xs tidy; means = means };
+      ahead_are =
+          ap (λ rs. walk_rows (basis m live) part sh 0 rs at_entry) main_is
+          ∙ sym (walk_top (basis m live) part sh side)
+          ∙ ap (walk (basis m live) (assembled side part sh)) (sym z);
+    }
 
-  pub enter_join : (j place exits : ℕ) (main piece : List Row) (ys : List TermRow) (v : Walk) → e ≡ suc j → main ≡ main_rows side part sh → Enters part sh j sh.joins main place exits
-      → piece ≡ join_rows part sh j → Does m xs w ys v (λ β. follow_all β (actions piece))
-      → Onward m.commutes xs ys v (walk_rows (basis m live) part sh exits (drop place (main_rows side part sh))) (walk (basis m live) (assembled side part sh) e)
-  enter_join j place exits main piece ys v z main-is h piece_is does = record {
-    symbols = follow_all (basis m live) (actions piece) at_entry;
-    follows = does live at_entry tidy means;
-    ahead_are =
-        ap (λ rs. walk_rows (basis m live) part sh exits (drop place (main_rows side part sh)) (follow_all (basis m live) (actions rs) at_entry)) piece_is
-        ∙ sym (walk_below (basis m live) part sh side j place exits (rw main-is at h))
-        ∙ ap (walk (basis m live) (assembled side part sh)) (sym z);
-  }
+    pub enter_join : (j place exits : ℕ) (piece rest : List Row) (ys : List TermRow) (v : Walk) → e ≡ suc j → rest ≡ drop place main → Enters part sh j sh.joins main place exits
+        → piece ≡ join_rows part sh j → Does m xs w ys v (λ β. follow_all β (actions piece))
+        → Onward m.commutes xs ys v (walk_rows (basis m live) part sh exits rest) (walk (basis m live) (assembled side part sh) e)
+    enter_join j place exits piece rest ys v z rest_is h piece_is does = record {
+      symbols = follow_all (basis m live) (actions piece) at_entry;
+      follows = does live at_entry tidy means;
+      ahead_are =
+          ap (λ rs. walk_rows (basis m live) part sh exits rs (follow_all (basis m live) (actions piece) at_entry)) (rest_is ∙ ap (drop place) main_is)
+          ∙ ap (λ rs. walk_rows (basis m live) part sh exits (drop place (main_rows side part sh)) (follow_all (basis m live) (actions rs) at_entry)) piece_is
+          ∙ sym (walk_below (basis m live) part sh side j place exits (rw main_is at h))
+          ∙ ap (walk (basis m live) (assembled side part sh)) (sym z);
+    }

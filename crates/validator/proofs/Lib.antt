@@ -1,7 +1,10 @@
+pub mod Same
+pub mod Grown
+pub mod Unique
+pub mod Interning
 pub mod Steps
 pub mod Stops
 pub mod Entering
-pub mod Bits
 pub mod Lowest
 pub mod Matching
 pub mod Rounds

@@ -1,5 +1,9 @@
 -- Numbers differ where their terms do.
 use Rattle.std.proofs.Common.{◌≡◌, ℕ, zero, suc, ◌≤◌, Bool, true, false, not, ◌&&◌, ◌||◌, eqb, ◌⊎◌, List, length, get_or, set, replicate, Some, None, Option, sym, refl, ap, ◌∙◌, ap₂, inl, inr, arith}
+use Rattle.std.specs.Bool.{beq}
+use Rattle.std.specs.Cmp.{booleans_Decides}
+use Rattle.std.specs.Cmp.Lexicographic.{pointwise}
+use Rattle.std.proofs.lemmas.Slice.Eq.{slice_eq-Decides}
 use Rattle.std.proofs.lemmas.Bool.{eqb-true, eqb-false, and_parts, and_from, both_ways, cases_eq}
 use Rattle.std.proofs.lemmas.Bool.Decides.{same_from_decides}
 use Rattle.std.proofs.lemmas.List.{get_or-set_same, get_or-set_other, length-set, length-replicate, ext_get_or}
@@ -15,9 +19,9 @@ use Rattle.validator.specs.Comparison.{◌or_else◌, found, member, within, dif
 use Rattle.validator.specs.Live.{bit, live_in}
 use Rattle.validator.specs.Tidy.{Tidy, Names}
 use Rattle.validator.specs.Means.{Marked, none, more, StopMeans, ConditionMeans}
-use Rattle.validator.specs.Numbers.{live_mask, same_marks, conditions_differ, numbers_differ}
-use Rattle.validator.specs.Interning.{same_by_number}
-use Rattle.validator.proofs.Lowest.{lowest_cong, marks_decide}
+use Rattle.validator.specs.Numbers.{live_mask, conditions_differ, numbers_differ}
+use Rattle.validator.proofs.Interning.{same_by_number}
+use Rattle.validator.proofs.Lowest.{lowest_cong}
 
 unmarked : (m n : ℕ) → get_or (replicate m false) n false ≡ false
 unmarked zero n = refl
@@ -77,11 +81,11 @@ module _ (c : Op → Bool) (xs : List TermRow) (tidy : Tidy c xs) (size : length
         go n e (inr i) = get_or-set_other h m n true false i ∙ e
 
   -- two sets have the same marks exactly where each is within the other
-  traps_match : (h k : List Bool) (ts us : List Term) → Marked c xs h ts → Marked c xs k us → same_marks h k ≡ (within (same c) ts us && within (same c) us ts)
+  traps_match : (h k : List Bool) (ts us : List Term) → Marked c xs h ts → Marked c xs k us → pointwise beq h k ≡ (within (same c) ts us && within (same c) us ts)
   traps_match h k ts us p q =
       let lh = marked_length h ts p in
       let lk = marked_length k us q in
-      same_from_decides _ _ (marks_decide h k) (
+      same_from_decides _ _ (slice_eq-Decides booleans_Decides h k _ refl) (
         (λ e.
             let w = and_parts (within (same c) ts us) (within (same c) us ts) e in
             ext_get_or false h k (lh ∙ sym lk) (λ i l. both _ _ (within_to k us q h ts p w.0 i) (within_to h ts p k us q w.1 i))),

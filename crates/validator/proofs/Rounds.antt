@@ -1,10 +1,7 @@
 -- Walks compared stop by stop, and lines entry by entry.
-use Rattle.std.proofs.Common.{◌≡◌, ℕ, suc, ◌+◌, ◌<◌, ◌≤◌, not, List, length, Some, None, Ok, Option, sym, refl, ap, ◌∙◌, ap₂, add-one, arith, length-take}
-use Rattle.std.proofs.lemmas.Bool.{eq-eqb, ne_eqb, le-leb}
+use Rattle.std.proofs.Common.{◌≡◌, ℕ, suc, ◌+◌, ◌<◌, ◌≤◌, not, List, length, Some, None, Ok, Option, is_some, true, false, sym, refl, ap, ◌∙◌, ap₂, add-one, below_more, arith}
+use Rattle.std.proofs.lemmas.Bool.{eq-eqb, ne_eqb, le-leb, false≢true}
 use Rattle.domain.specs.Meaning.{Meaning}
-use Rattle.numbering.specs.declared.kind.Kind.{Ghosts}
-use Rattle.numbering.specs.declared.table.Table.{Table}
-use Rattle.numbering.specs.Used.{used, capacity}
 use Rattle.region.specs.declared.label.LabelRow.{LabelRow}
 use Rattle.region.specs.declared.row.Row.{Row}
 use Rattle.region.specs.Kept.{Kept as KeptLine}
@@ -12,8 +9,8 @@ use Rattle.region.specs.declared.side.Side.TheVariants.{Source, Schedule}
 use Rattle.region.specs.Lines.{Line, joins, assembled}
 use Rattle.region.specs.Parts.{part_of}
 use Rattle.region.proofs.Whole.{a_part}
-use Rattle.validator.specs.declared.line_rows.LineRows.{LineRows}
 use Rattle.validator.specs.declared.term_row.TermRow.{TermRow}
+use Rattle.validator.specs.declared.terms.Terms.{Terms}
 use Rattle.validator.specs.declared.verdict.Mismatch.{Mismatch}
 use Rattle.validator.specs.declared.verdict.Reason.TheVariants as reason
 use Rattle.validator.specs.declared.verdict.Verdict.{Verdict}
@@ -26,25 +23,30 @@ use Rattle.validator.specs.Compared.{compared}
 use Rattle.validator.specs.Live.{live_in}
 use Rattle.validator.specs.Tidy.{Tidy, Kept}
 use Rattle.validator.specs.Means.{Means, Begun, ConditionMeans, StopMeans, Stopped, Onward, behind}
-use Rattle.validator.specs.Cursors.{main_of, entry_differs}
+use Rattle.validator.specs.Held.{held}
+use Rattle.validator.specs.Walkers.{entry_differs}
 use Rattle.validator.specs.Numbers.{live_mask, conditions_differ, numbers_differ}
-use Rattle.validator.specs.Interning.{used_length}
+use Rattle.validator.proofs.Interning.{used_length}
 use Rattle.validator.proofs.Steps.{means_kept}
-use Rattle.validator.proofs.Lowest.{first_below_at}
+use Rattle.validator.proofs.Lowest.{first_below_none, first_below_at}
 use Rattle.validator.proofs.Matching.{differ_match}
 
--- a line has at most 96 main rows
-pub main_few : (l : LineRows) → length (main_of l) ≤ 96
-main_few l = simp length-take (omega (arith, l.shape.few_rows))
-
--- a table holds no more than it has room for
-pub used_fits : {kind : Ghosts TermRow} (t : Table TermRow kind) → capacity t ≡ 512 → length (used t) ≤ 512
-used_fits t e = omega (arith, used_length t, t.inside)
+-- there are at most 512 terms
+pub held_few : (t : Terms) → length (held t) ≤ 512
+held_few t = omega (arith, used_length t.table, t.table.inside, t.room)
 
 -- where conditions do not differ, both walks go on or both are at an end
 both_more : (e n i : ℕ) (b : Option ℕ) (rest : Option Mismatch) → (conditions_differ e n (Some i) b or_else rest) ≡ None → (j : ℕ) × (b ≡ Some j)
 both_more e n i None rest h = absurd (let z : ◌≡◌ {A = ℕ} 0 1 = cc in omega arith)
 both_more e n i (Some j) rest h = (j, refl)
+
+from_is_none : {X : Type 0} (o : Option X) → is_some o ≡ false → o ≡ None
+from_is_none None h = refl
+from_is_none (Some x) h = cc
+
+from_is_some : {X : Type 0} (o : Option X) → is_some o ≡ true → (x : X) × (o ≡ Some x)
+from_is_some None h = absurd (false≢true h)
+from_is_some (Some x) h = (x, refl)
 
 module _ {W : Type 0} (m : Meaning W) (labels : List LabelRow) where
   -- how far a comparison of two walks has come: what is ahead gives what was asked
@@ -55,10 +57,6 @@ module _ {W : Type 0} (m : Meaning W) (labels : List LabelRow) where
     pub a_means : Means m.commutes xs w a
     pub b_means : Means m.commutes xs v b
     pub so_far : stops_differ (basis m (live_in labels)) e n (f a) (g b) ≡ goal
-
-  pub going : (xs : List TermRow) (w v : Walk) (f g : Symbols → List Stop) (e : ℕ) (s t : Symbols) → Tidy m.commutes xs → Means m.commutes xs w s → Means m.commutes xs v t
-      → Going xs w v f g e 1 (stops_differ (basis m (live_in labels)) e 1 (f s) (g t))
-  going xs w v f g e s t tidy p q = record { tidy = tidy; a = s; b = t; a_means = p; b_means = q; so_far = refl }
 
   condition_kept : (xs ys : List TermRow) → Kept m.commutes xs ys → (a : Option ℕ) (t : Option Term) → ConditionMeans m.commutes xs a t → ConditionMeans m.commutes ys a t
   condition_kept xs ys k None None p = tt
@@ -104,35 +102,43 @@ module _ {W : Type 0} (m : Meaning W) (labels : List LabelRow) where
               ∙ now.so_far;
         }
 
-    pub mismatched : (d : Mismatch) → Some d ≡ numbers_differ e n (live_mask labels x.label) x y → Some d ≡ goal
-    mismatched d o =
+    -- where the stops differ, or are the last, this is what was asked
+    pub mismatched : (r : Option Mismatch) → r ≡ numbers_differ e n (live_mask labels x.label) x y → is_some r ≡ true → r ≡ goal
+    mismatched None o h = absurd (false≢true h)
+    mismatched (Some d) o h =
         let t = turned in
         ap (λ (o : Option Mismatch). o or_else stops_differ (basis m (live_in labels)) e (suc n) (behind x.condition (f' t.a)) (behind y.condition (g' t.b))) o ∙ t.so_far
 
-    matched : None ≡ numbers_differ e n (live_mask labels x.label) x y
-        → stops_differ (basis m (live_in labels)) e (suc n) (behind x.condition (f' turned.a)) (behind y.condition (g' turned.b)) ≡ goal
-    matched o =
-        ap (λ (o : Option Mismatch). o or_else stops_differ (basis m (live_in labels)) e (suc n) (behind x.condition (f' turned.a)) (behind y.condition (g' turned.b))) o ∙ turned.so_far
+    module _ (r : Option Mismatch) (r_is : r ≡ numbers_differ e n (live_mask labels x.label) x y) (alike : is_some r ≡ false) where
+      matched : (None ≡ numbers_differ e n (live_mask labels x.label) x y)
+          × (stops_differ (basis m (live_in labels)) e (suc n) (behind x.condition (f' turned.a)) (behind y.condition (g' turned.b)) ≡ goal)
+      matched =
+          let o = sym (from_is_none r alike) ∙ r_is in
+          (o, ap (λ (o : Option Mismatch). o or_else stops_differ (basis m (live_in labels)) e (suc n) (behind x.condition (f' turned.a)) (behind y.condition (g' turned.b))) o ∙ turned.so_far)
 
-    pub ended : None ≡ numbers_differ e n (live_mask labels x.label) x y → x.condition ≡ None → None ≡ goal
-    ended o c =
-        ap (λ (k : Option ℕ). stops_differ (basis m (live_in labels)) e (suc n) (behind k (f' turned.a)) (behind y.condition (g' turned.b))) (sym c) ∙ matched o
+      pub ended : is_some x.condition ≡ false → r ≡ goal
+      ended h =
+          from_is_none r alike
+          ∙ ap (λ (k : Option ℕ). stops_differ (basis m (live_in labels)) e (suc n) (behind k (f' turned.a)) (behind y.condition (g' turned.b))) (sym (from_is_none x.condition h))
+          ∙ matched.1
 
-    pub onward : (i : ℕ) → None ≡ numbers_differ e n (live_mask labels x.label) x y → x.condition ≡ Some i → Going zs w' v' f' g' e (n + 1) goal
-    onward i o c =
-        let t = turned in
-        let j = both_more e n i y.condition _ (ap (λ (k : Option ℕ). numbers_differ e n (live_mask labels x.label) (record { condition = k; label = x.label; walk = x.walk }) y) (sym c) ∙ sym o) in
-        record {
-          tidy = t.tidy;
-          a = t.a;
-          b = t.b;
-          a_means = t.a_means;
-          b_means = t.b_means;
-          so_far =
-              ap (λ (k : ℕ). stops_differ (basis m (live_in labels)) e k (f' t.a) (g' t.b)) (add-one n)
-              ∙ ap₂ (λ (k l : Option ℕ). stops_differ (basis m (live_in labels)) e (suc n) (behind k (f' t.a)) (behind l (g' t.b))) (sym c) (sym j.1)
-              ∙ matched o;
-        }
+      -- else the comparison goes on behind them
+      pub onward : is_some x.condition ≡ true → Going zs w' v' f' g' e (n + 1) goal
+      onward h =
+          let t = turned in
+          let i = from_is_some x.condition h in
+          let j = both_more e n i.0 y.condition _ (ap (λ (k : Option ℕ). numbers_differ e n (live_mask labels x.label) (record { condition = k; label = x.label; walk = x.walk }) y) (sym i.1) ∙ sym matched.0) in
+          record {
+            tidy = t.tidy;
+            a = t.a;
+            b = t.b;
+            a_means = t.a_means;
+            b_means = t.b_means;
+            so_far =
+                ap (λ (k : ℕ). stops_differ (basis m (live_in labels)) e k (f' t.a) (g' t.b)) (add-one n)
+                ∙ ap₂ (λ (k l : Option ℕ). stops_differ (basis m (live_in labels)) e (suc n) (behind k (f' t.a)) (behind l (g' t.b))) (sym i.1) (sym j.1)
+                ∙ matched.1;
+          }
 
   -- the two walks from an entry
   pub from_entry : (xs ys zs : List TermRow) (st w v : Walk) (f g : Symbols → List Stop) (ss ts : List Stop) (e : ℕ) (r : Option Mismatch) → Begun m.commutes xs st
@@ -159,11 +165,17 @@ module _ {W : Type 0} (m : Meaning W) (labels : List LabelRow) (src sch : Line) 
       ∙ ap (λ b. found 0 0 (not b) reason.Joins 0 or_else first_below (suc (joins src.places)) (entry_differs m labels src sch))
       (sym (eq-eqb (joins src.places) (joins sch.places) (src_joins ∙ e ∙ sym sch_joins)))
 
-  pub entry_failed : (k : ℕ) (d : Mismatch) → i ≡ j → k < i + 1 → first_below k (entry_differs m labels src sch) ≡ None → Some d ≡ (entry_differs m labels src sch) k → Some d ≡ mismatch (basis m (live_in labels)) src sch
-  entry_failed k d e l p q = sym (first_below_at (entry_differs m labels src sch) (i + 1) k d l p (sym q)) ∙ same_joins e
+  -- entry k is the first from which something differs, or the last of all
+  module _ (k : ℕ) (same : i ≡ j) (before : (l : ℕ) → l < k → entry_differs m labels src sch l ≡ None) where
+    pub entry_failed : (r : Option Mismatch) → k ≤ i → r ≡ entry_differs m labels src sch k → is_some r ≡ true → r ≡ mismatch (basis m (live_in labels)) src sch
+    entry_failed r l e h =
+        let d = from_is_some r h in
+        d.1 ∙ sym (first_below_at (entry_differs m labels src sch) (i + 1) k d.0 (omega arith) before (sym e ∙ d.1)) ∙ same_joins same
 
-  pub entries_passed : (k : ℕ) → i ≡ j → k ≡ i + 1 → first_below k (entry_differs m labels src sch) ≡ None → None ≡ mismatch (basis m (live_in labels)) src sch
-  entries_passed k e l p = sym p ∙ ap (λ n. first_below n (entry_differs m labels src sch)) l ∙ same_joins e
+    pub entries_passed : (r : Option Mismatch) → k ≡ i → r ≡ entry_differs m labels src sch k → is_some r ≡ false → None ≡ mismatch (basis m (live_in labels)) src sch
+    entries_passed r l e h =
+        sym (first_below_none (entry_differs m labels src sch) (i + 1) (λ x z. below_more (λ y. entry_differs m labels src sch y ≡ None) k before (sym e ∙ from_is_none r h) x (omega arith)))
+        ∙ same_joins same
 
 -- there is a verdict where all fits
 pub compared_is : {W : Type 0} (m : Meaning W) (rows : List Row) (labels : List LabelRow) (source schedule : KeptLine) (room : ℕ) (part : List Row) (d : Option Mismatch) (v : Verdict)

@@ -15,7 +15,7 @@ use Rattle.validator.specs.Terms.{Term}
 use Rattle.validator.specs.Walks.{Basis, basis, Symbols, term, follow, follow_all}
 use Rattle.validator.specs.Tidy.{Tidy, Names, Kept, Says, Interned}
 use Rattle.validator.specs.Means.{Marked, none, more, Means, Follows, Liveness, Does, action_row, put}
-use Rattle.validator.specs.Interning.{says_literal, says_operate, says_load, says_store, kept_all, grown_then}
+use Rattle.validator.proofs.Interning.{says_literal, says_operate, says_load, says_store, kept_all, grown_then}
 
 module _ (c : Op → Bool) where
   marked_kept : (xs ys : List TermRow) → Kept c xs ys → (h : List Bool) (ts : List Term) → Marked c xs h ts → Marked c ys h ts

@@ -1,38 +1,24 @@
 -- A walk over main rows, row by row.
-use Rattle.std.proofs.Common.{◌≡◌, ℕ, ◌+◌, ◌-◌, ◌*◌, ◌<◌, ◌≤◌, Bool, ◌⊎◌, List, ◌∷◌, length, get_or, drop, Some, None, Option, sym, refl, ap, ◌∙◌, inl, inr, arith}
-use Rattle.std.proofs.lemmas.Bool.{cases_lt}
-use Rattle.std.proofs.lemmas.List.{drop_all}
+use Rattle.std.proofs.Common.{◌≡◌, ℕ, ◌+◌, Bool, List, ◌∷◌, length, get_or, Some, None, Option, sym, refl, ap, ◌∙◌}
+use Rattle.std.proofs.lemmas.List.{nil_from_length}
 use Rattle.domain.specs.declared.op.Op.{Op}
 use Rattle.domain.specs.Meaning.{Meaning}
 use Rattle.region.specs.Numbers.{LabelNumber, Register}
 use Rattle.region.specs.declared.row.Action.{Action}
 use Rattle.region.specs.declared.row.Row.{Row}
 use Rattle.region.specs.declared.row.Row.TheVariants.{Act, Exit, Join}
-use Rattle.region.specs.declared.shape.Shape.{Shape}
-use Rattle.region.specs.Kept.{Kept, kept}
+use Rattle.region.specs.Kept.{Kept}
 use Rattle.region.specs.Layout.{exit_rows}
 use Rattle.region.specs.Rows.{actions}
-use Rattle.region.proofs.ToJoins.{here}
-use Rattle.region.proofs.Pieces.{no_exit_rows}
 use Rattle.validator.specs.declared.term_row.TermRow.{TermRow}
 use Rattle.validator.specs.declared.walk.Walk.{Walk}
 use Rattle.validator.specs.declared.walk.Reached.{Reached}
 use Rattle.validator.specs.Terms.{Term}
 use Rattle.validator.specs.Walks.{basis, Symbols, Stop, follow, follow_all}
-use Rattle.validator.specs.Tidy.{Tidy}
 use Rattle.validator.specs.Straight.{walk_rows}
-use Rattle.validator.specs.Means.{Means, Liveness, Does, Leaves, Onward, Stopped, ConditionMeans, behind}
-use Rattle.validator.specs.Interning.{kept_all, grown_then}
+use Rattle.validator.specs.Means.{Liveness, Does, Leaves, Onward, Stopped, ConditionMeans, behind}
+use Rattle.validator.proofs.Interning.{grown_then}
 use Rattle.validator.proofs.Steps.{means_kept}
-
--- the piece of an exit needs no more room than was kept for it: beyond the eighth exit there is none
-pub piece_fits : (part : List Row) (sh : Shape) (k : ℕ) (piece : List Row) → piece ≡ exit_rows part (kept sh) k → length piece ≤ 16
-    → length piece + 16 * (8 - (k + 1)) ≤ 16 * (8 - k)
-piece_fits part sh k piece e few = go (cases_lt k 8)
-  where
-    go : (k < 8) ⊎ (8 ≤ k) → length piece + 16 * (8 - (k + 1)) ≤ 16 * (8 - k)
-    go (inl l) = omega arith
-    go (inr l) = omega (arith, ap length (e ∙ sym (no_exit_rows sh k part l)))
 
 -- a stop that has a condition is not the last
 goes_on : (c : Op → Bool) (xs : List TermRow) (o : Option ℕ) (t : Term) (stops : List Stop) → ConditionMeans c xs o (Some t) → stops ≡ behind o stops
@@ -46,24 +32,20 @@ leaves m xs ys w v t l piece j j-is p live s tidy h =
     let f = p live s tidy h in
     (f.grown, record { condition = rw j-is (f.grown.kept _ _ (h.register t.index t.fits)); label = refl; walk = f.means })
 
-module _ {W : Type 0} (m : Meaning W) (live : Liveness) (part : List Row) (sh : Kept) (main : List Row) (k : ℕ) where
-  pub starts : (xs : List TermRow) (w : Walk) (i : ℕ) (s : Symbols) → Tidy m.commutes xs → Means m.commutes xs w s
-      → Onward m.commutes xs xs w (walk_rows (basis m live) part sh k (drop i main)) (walk_rows (basis m live) part sh k (drop i main) s)
-  starts xs w i s tidy h = record { symbols = s; follows = record { grown = kept_all m.commutes xs tidy; means = h }; ahead_are = refl }
+module _ {W : Type 0} (m : Meaning W) (live : Liveness) (part : List Row) (sh : Kept) (k : ℕ) where
+  -- the stops of main rows with k exits above them
+  abbrev stops_of : List Row → Symbols → List Stop
+  stops_of rows = walk_rows (basis m live) part sh k rows
 
-  module _ (xs ys : List TermRow) (w : Walk) (stops : List Stop) (i : ℕ)
-      (on : Onward m.commutes xs ys w (walk_rows (basis m live) part sh k (drop i main)) stops) where
-    module _ (rows : List Row) (rows_are : rows ≡ main) (r : Row) (inside : i < length rows) (read : r ≡ get_or rows i r) where
+  module _ (xs ys : List TermRow) (w : Walk) (stops : List Stop) (rows : List Row)
+      (on : Onward m.commutes xs ys w (walk_rows (basis m live) part sh k rows) stops) where
+    module _ (r : Row) (rest : List Row) (rows_are : rows ≡ r ∷ rest) where
       -- what is ahead, at the row x
-      at_row : (x : Row) → r ≡ x → walk_rows (basis m live) part sh k (x ∷ drop (i + 1) main) on.symbols ≡ stops
-      at_row x e =
-          ap (λ rs. walk_rows (basis m live) part sh k (x ∷ drop (i + 1) rs) on.symbols) (sym rows_are)
-          ∙ ap (λ rs. walk_rows (basis m live) part sh k rs on.symbols) (sym (here rows i r inside read ∙ ap (λ y. y ∷ drop (i + 1) rows) e))
-          ∙ ap (λ rs. walk_rows (basis m live) part sh k (drop i rs) on.symbols) rows_are
-          ∙ on.ahead_are
+      at_row : (x : Row) → r ≡ x → walk_rows (basis m live) part sh k (x ∷ rest) on.symbols ≡ stops
+      at_row x e = ap (λ rs. stops_of rs on.symbols) (sym (rows_are ∙ ap (λ y. y ∷ rest) e)) ∙ on.ahead_are
 
       pub past_action : (a : Action) (zs : List TermRow) (v : Walk) → r ≡ Act a → Does m ys w zs v (λ β. follow β a)
-          → Onward m.commutes xs zs v (walk_rows (basis m live) part sh k (drop (i + 1) main)) stops
+          → Onward m.commutes xs zs v (walk_rows (basis m live) part sh k rest) stops
       unfolding walk_rows
       past_action a zs v e p =
           let f = p live on.symbols on.follows.grown.tidy on.follows.means in
@@ -73,36 +55,36 @@ module _ {W : Type 0} (m : Meaning W) (live : Liveness) (part : List Row) (sh : 
             ahead_are = at_row (Act a) e;
           }
 
-      pub past_join : r ≡ Join → Onward m.commutes xs ys w (walk_rows (basis m live) part sh k (drop (i + 1) main)) stops
+      pub past_join : r ≡ Join → Onward m.commutes xs ys w (walk_rows (basis m live) part sh k rest) stops
       unfolding walk_rows
       past_join e = record { symbols = on.symbols; follows = on.follows; ahead_are = at_row Join e }
 
       pub at_exit : (t : Register) (l : LabelNumber) (piece : List Row) (zs : List TermRow) (x : Reached) → r ≡ Exit t l
           → piece ≡ exit_rows part sh k → Leaves m ys w t l piece zs x
-          → Stopped m.commutes xs zs x w (walk_rows (basis m live) part sh (k + 1) (drop (i + 1) main)) stops
+          → Stopped m.commutes xs zs x w (walk_rows (basis m live) part sh (k + 1) rest) stops
       unfolding walk_rows
       at_exit t l piece zs x e piece_is p =
           let s = on.symbols in
           let f = p live s on.follows.grown.tidy on.follows.means in
           let stop : Stop = record { condition = Some (s.register t.index); label = l; symbols = follow_all (basis m live) (actions piece) s } in
-          let here : stops ≡ stop ∷ walk_rows (basis m live) part sh (k + 1) (drop (i + 1) main) s = rw piece_is (sym (at_row (Exit t l) e)) in
+          let here : stops ≡ stop ∷ walk_rows (basis m live) part sh (k + 1) rest s = rw piece_is (sym (at_row (Exit t l) e)) in
           record {
             grown = grown_then m.commutes xs ys zs on.follows.grown f.0;
             stop = stop;
             stop_means = f.1;
             symbols = s;
             means = means_kept m.commutes ys zs f.0.kept w s on.follows.means;
-            stops_are = here ∙ ap (λ ss. stop ∷ ss) (goes_on m.commutes zs x.condition (s.register t.index) (walk_rows (basis m live) part sh (k + 1) (drop (i + 1) main) s) f.1.condition);
+            stops_are = here ∙ ap (λ ss. stop ∷ ss) (goes_on m.commutes zs x.condition (s.register t.index) (walk_rows (basis m live) part sh (k + 1) rest s) f.1.condition);
           }
 
-    pub at_end : (l : LabelNumber) (then : Symbols → List Stop) (rows : List Row) → l ≡ sh.end → rows ≡ main → length rows ≤ i
+    pub at_end : (l : LabelNumber) (then : Symbols → List Stop) → l ≡ sh.end → length rows ≡ 0
         → Stopped m.commutes xs ys (record { condition = None; label = l; walk = w }) w then stops
     unfolding walk_rows
-    at_end l then rows e rows_are past = record {
+    at_end l then e none = record {
       grown = on.follows.grown;
       stop = record { condition = None; label = sh.end; symbols = on.symbols };
       stop_means = record { condition = tt; label = e; walk = on.follows.means };
       symbols = on.symbols;
       means = on.follows.means;
-      stops_are = sym on.ahead_are ∙ ap (λ rs. walk_rows (basis m live) part sh k rs on.symbols) (drop_all i main (omega (arith, ap length rows_are)));
+      stops_are = sym on.ahead_are ∙ ap (λ rs. stops_of rs on.symbols) (nil_from_length rows none);
     }

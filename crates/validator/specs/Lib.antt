@@ -5,12 +5,10 @@ pub mod Reasons
 pub mod Live
 pub mod Compared
 pub mod TermRows
+pub mod Equal
 pub mod Tidy
 pub mod Straight
 pub mod Means
-pub mod Cursors
+pub mod Held
+pub mod Walkers
 pub mod Numbers
-pub mod Interning
-pub mod Same
-pub mod Unique
-pub mod Grown

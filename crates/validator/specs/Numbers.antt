@@ -1,5 +1,7 @@
 -- The comparison of two stops by the numbers of their terms.
-use Rattle.std.specs.Prelude.{◌≡◌, ℕ, ◌^◌, ◌<◌, Bool, true, false, not, ◌&&◌, List, [], ◌∷◌, Some, None, Option, ◌==◌, slice_index, slice_index_or}
+use Rattle.std.specs.Prelude.{ℕ, Bool, true, not, ◌&&◌, List, Some, None, Option, ◌==◌, slice_index, slice_index_or}
+use Rattle.std.specs.Bool.{beq}
+use Rattle.std.specs.Cmp.Lexicographic.{pointwise}
 use Rattle.region.specs.declared.label.LabelRow.{LabelRow}
 use Rattle.region.specs.Numbers.{LabelNumber}
 use Rattle.region.specs.Labels.{unused}
@@ -10,27 +12,12 @@ use Rattle.validator.specs.declared.walk.Reached.{Reached}
 use Rattle.validator.specs.Comparison.{◌or_else◌, found, lowest}
 use Rattle.validator.specs.Live.{bit}
 
-abbrev pub same_mark : Bool → Bool → Bool
-same_mark true b = b
-same_mark false b = not b
-
--- two sets of numbers, as marks
-abbrev pub same_marks : List Bool → List Bool → Bool
-same_marks [] [] = true
-same_marks [] (k ∷ ks) = false
-same_marks (h ∷ hs) [] = false
-same_marks (h ∷ hs) (k ∷ ks) = same_mark h k && same_marks hs ks
-
 -- the live mask of a label
 abbrev pub live_mask : List LabelRow → LabelNumber → ℕ
 live_mask labels l = (slice_index_or labels l.index unused).live
 
 abbrev pub unlike : List ℕ → List ℕ → ℕ → Bool
 unlike xs ys i = not (slice_index xs i == slice_index ys i)
-
--- the bits of a mask below bit i are those of the numbers that pass the test
-abbrev pub Marks : (ℕ → Bool) → ℕ → ℕ → Type 0
-Marks test i mask = (mask < 2 ^ i) × ((k : ℕ) → k < i → (bit k mask == 1) ≡ test k)
 
 module _ (e n : ℕ) where
   abbrev pub conditions_differ : Option ℕ → Option ℕ → Option Mismatch
@@ -49,7 +36,7 @@ module _ (e n : ℕ) where
   banks_differ x y = lowest e n 4 (unlike x.banks y.banks) reason.Bank
 
   abbrev pub marks_differ : Walk → Walk → Option Mismatch
-  marks_differ x y = found e n (not (same_marks x.traps y.traps)) reason.Traps 0
+  marks_differ x y = found e n (not (pointwise beq x.traps y.traps)) reason.Traps 0
 
   -- what differs first
   abbrev pub numbers_differ : (live : ℕ) → Reached → Reached → Option Mismatch

@@ -1,28 +1,24 @@
 -- Rows of terms: each names its parts by the numbers of their rows.
-use Rattle.std.specs.Prelude.{◌≡◌, ℕ, zero, suc, ◌<◌, min, max, Bool, true, false, List, [], ◌∷◌, length, slice_index_or}
-use Rattle.std.specs.Str.{bytes_eq}
+use Rattle.std.specs.Prelude.{◌≡◌, ℕ, zero, suc, ◌<◌, min, max, Bool, true, false, List, length, slice_index_or}
 use Rattle.domain.specs.declared.op.Op.{Op}
 use Rattle.validator.specs.declared.term_row.TermRow.{TermRow}
 use Rattle.validator.specs.declared.term_row.TermRow.TheVariants.{RegisterAtEntry, BankAtEntry, Literal, Operate, Load, Store}
-use Rattle.validator.specs.Terms.{Term, number, register_at_entry, bank_at_entry, literal, operate, load, store}
+use Rattle.validator.specs.contracts.term_row.TermRowPartialEq.TheImpl as eq
+use Rattle.validator.specs.Terms.{Term, register_at_entry, bank_at_entry, literal, operate, load, store}
 
--- What tells a row from another, as four numbers: what kind of row it is, and its parts.
--- Operands that may be exchanged are put in order.
-abbrev pub operate_key : (exchangeable : Bool) → ℕ → ℕ → ℕ → List ℕ
-operate_key true o a b = 4 ∷ o ∷ min a b ∷ max a b ∷ []
-operate_key false o a b = 3 ∷ o ∷ a ∷ b ∷ []
+-- the row with operands that may be exchanged in ascending order
+abbrev pub ordered : TermRow → TermRow
+ordered (RegisterAtEntry i) = RegisterAtEntry i
+ordered (BankAtEntry k) = BankAtEntry k
+ordered (Literal n) = Literal n
+ordered (Operate o true a b) = Operate o true (min a b) (max a b)
+ordered (Operate o false a b) = Operate o false a b
+ordered (Load k a) = Load k a
+ordered (Store k a v) = Store k a v
 
-abbrev pub key : TermRow → List ℕ
-key (RegisterAtEntry i) = 0 ∷ i ∷ 0 ∷ 0 ∷ []
-key (BankAtEntry k) = 1 ∷ k ∷ 0 ∷ 0 ∷ []
-key (Literal n) = 2 ∷ n ∷ 0 ∷ 0 ∷ []
-key (Operate o x a b) = operate_key x (number o) a b
-key (Load k a) = 5 ∷ k ∷ a ∷ 0 ∷ []
-key (Store k a v) = 6 ∷ k ∷ a ∷ v ∷ []
-
--- two rows are equal where their keys are: they are built alike, exchangeable operands in either order
+-- two rows are equal where they are built alike, exchangeable operands in either order
 abbrev pub row_equals : TermRow → TermRow → Bool
-row_equals x y = bytes_eq (key x) (key y)
+row_equals x y = (eq.ghosts).eq (ordered x) (ordered y)
 
 -- the term that a row says, where `term` gives the terms of numbers
 abbrev pub row_term : (term : ℕ → Term) → TermRow → Term

@@ -1,117 +1,88 @@
 // The comparison of a schedule with its source.
 ghost use Rattle.std.specs.Prelude.{◌≡◌, ◌+◌, ◌≤◌, length};
-ghost use Rattle.numbering.specs.Used.{capacity, used};
 ghost use Rattle.region.specs.Kept.{kept};
+ghost use Rattle.validator.specs.Held.{held};
 ghost use Rattle.validator.specs.Walks.{basis};
-ghost use Rattle.validator.specs.Comparison.{mismatch as mismatch_of, verdict as verdict_of};
+ghost use Rattle.validator.specs.Comparison.{mismatch as mismatch_of};
 ghost use Rattle.validator.specs.Live.{live_in};
 ghost use Rattle.validator.specs.Compared.{compared};
-ghost use Rattle.validator.specs.Cursors.{left, line_of, InLine, entry_differs, DiffersFirst};
+ghost use Rattle.validator.specs.Walkers.{left, line_of, entry_differs, DiffersFirst};
 
 use super::at::At;
 use super::differing::differ;
-use super::entries::{begin, enter};
 use super::line_rows::LineRows;
 use super::term_row::TermRow;
+use super::terms::{TERM_ROWS, Terms};
 use super::unfit::Unfit;
 use super::verdict::{Mismatch, Reason, Verdict};
-use super::walk::Cursor;
-use super::walking::next_stop;
+use super::walk::Walk;
+use super::walking::Walker;
 use domain::Domain;
-use numbering::Table;
 use region::{LabelRow, Part, REGION_LABELS, Row, Shape, Side};
 
-/// How many rows of terms a comparison works with.
-pub const TERM_ROWS: usize = 512;
+// The stops of a line of 96 main rows that are all exits.
+const MOST_STOPS: u8 = 97;
 
-// Compares two walks from an entry, stop by stop.
-fn compare_walks<D: Domain>(
-    table: &mut Table<TermRow>,
-    source: LineRows,
-    from_source: Cursor,
-    schedule: LineRows,
-    from_schedule: Cursor,
-    labels: &[LabelRow],
-    number: u8,
-) -> Option<Mismatch>
-    requires labels { length labels.now ≡ 9 }
-    requires size { capacity table.old ≡ 512 }
-    requires room { table.old.len + left source from_source + left schedule from_schedule ≤ 512 }
-    requires source { InLine source from_source }
-    requires schedule { InLine schedule from_schedule }
-    ensures { DiffersFirst D.meaning labels.now number (used table.old) source.entry from_source schedule.entry from_schedule result }
-{
-    let mut at_source = from_source;
-    let mut at_schedule = from_schedule;
-    let mut stop: u8 = 1;
-    loop {
-        let x = next_stop::<D>(table, &mut at_source, source);
-        let y = next_stop::<D>(table, &mut at_schedule, schedule);
-        if let Some(mismatch) = differ(&x, &y, labels, At { from: number, stop }) {
-            return Some(mismatch);
+// A source and its schedule, with the labels that both lead to.
+#[derive(Clone, Copy)]
+struct Pair<'a> {
+    source: LineRows<'a>,
+    schedule: LineRows<'a>,
+    labels: &'a [LabelRow; REGION_LABELS],
+}
+
+impl Pair<'_> {
+    // What differs first ahead of two walks from an entry.
+    fn differ_ahead<D: Domain>(
+        &self,
+        terms: &mut Terms,
+        mut source: Walker,
+        mut schedule: Walker,
+        entry: u8,
+    ) -> Option<Mismatch>
+        requires room { terms.old.table.len + left source + left schedule ≤ 512 }
+        ensures { DiffersFirst D.meaning self.now.labels.now entry (held terms.old) source.entry schedule.entry result }
+    {
+        for stop in 1..=MOST_STOPS {
+            let x = source.next_stop::<D>(terms);
+            let y = schedule.next_stop::<D>(terms);
+            let mismatch = differ(&x, &y, self.labels, At { from: entry, stop });
+            if mismatch.is_some() || x.condition.is_none() {
+                return mismatch;
+            }
         }
-        let Some(_) = x.condition else {
-            return None;
-        };
-        stop += 1;
+        unreachable!()
     }
-}
 
-// Compares the walks from an entry that both lines have. The table of terms starts anew.
-fn compare_entry<D: Domain>(
-    source: LineRows,
-    schedule: LineRows,
-    labels: &[LabelRow],
-    terms: &mut [TermRow],
-    number: u8,
-) -> Option<Mismatch>
-    requires labels { length labels.now ≡ 9 }
-    requires size { length terms.old ≡ 512 }
-    requires source_entry { number ≤ source.shape.joins }
-    requires schedule_entry { number ≤ schedule.shape.joins }
-    ensures { result ≡ entry_differs D.meaning labels.now (line_of source.entry) (line_of schedule.entry) number }
-{
-    let mut table = Table::new(terms);
-    let start = begin(&mut table);
-    let a = enter::<D>(&mut table, &start, source, number as usize);
-    let b = enter::<D>(&mut table, &start, schedule, number as usize);
-    compare_walks::<D>(&mut table, source, a, schedule, b, labels, number)
-}
-
-// The first mismatch of two lines: joins first, and then entry by entry.
-fn first_mismatch<D: Domain>(
-    source: LineRows,
-    schedule: LineRows,
-    labels: &[LabelRow],
-    terms: &mut [TermRow],
-) -> Option<Mismatch>
-    requires labels { length labels.now ≡ 9 }
-    requires size { length terms.old ≡ 512 }
-    ensures { result ≡ mismatch_of (basis D.meaning (live_in labels.now)) (line_of source.entry) (line_of schedule.entry) }
-{
-    if source.shape.joins() != schedule.shape.joins() {
-        return Some(Mismatch {
-            entry: 0,
-            stop: 0,
-            reason: Reason::Joins,
-            number: 0,
-        });
+    // What differs first from an entry that both lines have.
+    fn differ_from<D: Domain>(&self, rows: &mut [TermRow; TERM_ROWS], entry: u8) -> Option<Mismatch>
+        requires source { entry ≤ self.now.source.shape.joins }
+        requires schedule { entry ≤ self.now.schedule.shape.joins }
+        ensures { result ≡ entry_differs D.meaning self.now.labels.now (line_of self.now.source) (line_of self.now.schedule) entry }
+    {
+        let mut terms = Terms::new(rows);
+        let start = Walk::at_entry(&mut terms);
+        let source = Walker::enter::<D>(self.source, entry, &start, &mut terms);
+        let schedule = Walker::enter::<D>(self.schedule, entry, &start, &mut terms);
+        self.differ_ahead::<D>(&mut terms, source, schedule, entry)
     }
-    let entries = source.shape.joins() as u8 + 1;
-    for number in 0..entries {
-        if let Some(mismatch) = compare_entry::<D>(source, schedule, labels, terms, number) {
-            return Some(mismatch);
+
+    // The first mismatch of the two lines: joins first, and then entry by entry.
+    fn first_mismatch<D: Domain>(&self, rows: &mut [TermRow; TERM_ROWS]) -> Option<Mismatch>
+        ensures { result ≡ mismatch_of (basis D.meaning (live_in self.now.labels.now)) (line_of self.now.source) (line_of self.now.schedule) }
+    {
+        let joins = self.source.shape.joins();
+        if self.schedule.shape.joins() != joins {
+            return Some(At { from: 0, stop: 0 }.mismatch(Reason::Joins, 0));
         }
-    }
-    None
-}
-
-fn verdict(mismatch: Option<Mismatch>) -> Verdict
-    ensures { result ≡ verdict_of mismatch }
-{
-    match mismatch {
-        None => Verdict::Passed,
-        Some(mismatch) => Verdict::Failed(mismatch),
+        // No `find_map`: its contract does not say that None comes last where the closure writes, as here to the rows.
+        for entry in 0..=joins as u8 {
+            let mismatch = self.differ_from::<D>(rows, entry);
+            if mismatch.is_some() {
+                return mismatch;
+            }
+        }
+        None
     }
 }
 
@@ -127,25 +98,18 @@ pub fn compare<D: Domain>(
     ensures answer { result ≡ compared D.meaning rows.now labels.now (kept source.now) (kept schedule.now) (length terms.old) }
     ensures room { length terms.new ≡ length terms.old }
 {
-    let Some(part) = Part::new(rows) else {
-        return Err(Unfit::Rows);
-    };
-    if labels.len() != REGION_LABELS {
-        return Err(Unfit::Labels);
-    }
-    if terms.len() < TERM_ROWS {
-        return Err(Unfit::Terms);
-    }
-    let source = LineRows {
+    let part = Part::new(rows).ok_or(Unfit::Rows)?;
+    let labels = <&[LabelRow; REGION_LABELS]>::try_from(labels).map_err(|_| Unfit::Labels)?;
+    let terms = terms.first_chunk_mut::<TERM_ROWS>().ok_or(Unfit::Terms)?;
+    let line = |side, shape: &Shape| LineRows {
         part,
-        side: Side::Source,
-        shape: *source,
+        side,
+        shape: *shape,
     };
-    let schedule = LineRows {
-        part,
-        side: Side::Schedule,
-        shape: *schedule,
+    let pair = Pair {
+        source: line(Side::Source, source),
+        schedule: line(Side::Schedule, schedule),
+        labels,
     };
-    let mismatch = first_mismatch::<D>(source, schedule, labels, &mut terms[0..TERM_ROWS]);
-    Ok(verdict(mismatch))
+    Ok(pair.first_mismatch::<D>(terms).into())
 }

@@ -17,7 +17,8 @@ mod verdict;
 mod walk;
 mod walking;
 
-pub use comparing::{TERM_ROWS, compare};
+pub use comparing::compare;
 pub use term_row::TermRow;
+pub use terms::TERM_ROWS;
 pub use unfit::Unfit;
 pub use verdict::{Mismatch, Reason, Verdict};

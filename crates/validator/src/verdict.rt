@@ -1,5 +1,6 @@
 // What the comparison of a schedule with its source answers.
 ghost use Rattle.std.specs.Prelude.{◌≡◌};
+ghost use Rattle.validator.specs.Comparison.{verdict as verdict_of};
 ghost use Rattle.validator.specs.Reasons.{reason_name};
 
 /// What differs first between the walks of a source and of its schedule.
@@ -48,8 +49,20 @@ pub struct Mismatch {
 }
 
 /// What a comparison answers.
+// No Result<(), Mismatch>: it stands in another's Ok, where a failed pair would read as a failed call.
 #[derive(Clone, Copy)]
 pub enum Verdict {
     Passed,
     Failed(Mismatch),
+}
+
+impl From<Option<Mismatch>> for Verdict {
+    ghost from_gives = { λ first v. v ≡ verdict_of first };
+
+    fn from(first: Option<Mismatch>) -> Verdict {
+        match first {
+            None => Verdict::Passed,
+            Some(mismatch) => Verdict::Failed(mismatch),
+        }
+    }
 }

@@ -1,4 +1,5 @@
 // Walks on the numbers of terms.
+use super::terms::TERM_ROWS;
 use region::LabelNumber;
 
 /// A symbolic state: the numbers of the registers' and of the banks' terms, and the set of those that may have trapped.
@@ -6,15 +7,8 @@ use region::LabelNumber;
 pub(crate) struct Walk {
     pub(crate) registers: [u16; 16],
     pub(crate) banks: [u16; 4],
-    pub(crate) traps: [bool; 512],
-}
-
-/// A walk and how far it has come: how many main rows and how many exits are above.
-#[derive(Clone, Copy)]
-pub(crate) struct Cursor {
-    pub(crate) walk: Walk,
-    pub(crate) place: usize,
-    pub(crate) exits: usize,
+    // A set of numbers below 512, as an array of marks: no heap.
+    pub(crate) traps: [bool; TERM_ROWS],
 }
 
 /// A stop of a walk; the last one has no condition.

@@ -1,72 +1,85 @@
 // Walks over main rows, from stop to stop.
 ghost use Rattle.std.specs.Prelude.{◌≡◌, ◌+◌, ◌<◌, ◌≤◌, true, length, is_some};
-ghost use Rattle.numbering.specs.Used.{capacity, used};
-ghost use Rattle.validator.specs.Means.{Leaves};
-ghost use Rattle.validator.specs.Cursors.{left, InLine, ComesTo};
 
-use super::acting::{act, acts};
 use super::line_rows::LineRows;
-use super::term_row::TermRow;
-use super::walk::{Cursor, Reached, Walk};
+use super::terms::Terms;
+use super::walk::{Reached, Walk};
 use domain::Domain;
-use numbering::Table;
-use region::{LabelNumber, Register, Row};
+use region::{Piece, Position, Row, below};
 
-// The stop at an exit: its piece goes on a copy of the walk.
-fn leave<D: Domain>(
-    table: &mut Table<TermRow>,
-    walk: &Walk,
-    tested: Register,
-    label: LabelNumber,
-    piece: &[Row],
-) -> Reached
-    requires size { capacity table.old ≡ 512 }
-    requires room { table.old.len + length piece.now ≤ 512 }
-    ensures size { capacity table.new ≡ 512 }
-    ensures few { table.new.len ≤ table.old.len + length piece.now }
-    ensures leaves { Leaves D.meaning (used table.old) walk.now tested label piece.now (used table.new) result }
-{
-    let mut after = *walk;
-    acts::<D>(table, &mut after, piece);
-    Reached {
-        condition: Some(walk.registers[tested.get()]),
-        label,
-        walk: after,
-    }
+/// A walk of a line: the main rows ahead, how many exits are above them, and the symbolic state there.
+#[derive(Drop)]
+pub(crate) struct Walker<'a> {
+    pub(crate) line: LineRows<'a>,
+    pub(crate) ahead: &'a [Row],
+    pub(crate) exits: usize,
+    pub(crate) walk: Walk,
+    ghost few: { exits + length ahead.now ≤ 96 },
 }
 
-/// Walks on to the next stop: an exit, or the end of the line.
-pub(crate) fn next_stop<D: Domain>(
-    table: &mut Table<TermRow>,
-    cursor: &mut Cursor,
-    line: LineRows,
-) -> Reached
-    requires size { capacity table.old ≡ 512 }
-    requires room { table.old.len + left line cursor.old ≤ 512 }
-    requires inside { InLine line cursor.old }
-    ensures size { capacity table.new ≡ 512 }
-    ensures few { table.new.len + left line.entry cursor.new ≤ table.old.len + left line.entry cursor.old }
-    ensures inside { InLine line.entry cursor.new }
-    ensures onward { is_some result.condition ≡ true → cursor.old.place < cursor.new.place }
-    ensures stopped { ComesTo D.meaning line.entry (used table.old) cursor.old (used table.new) cursor.new result }
-{
-    let main = line.part.main(line.side, &line.shape);
-    while cursor.place < main.len() {
-        let row = main[cursor.place];
-        cursor.place += 1;
-        match row {
-            Row::Act(action) => act::<D>(table, &mut cursor.walk, action),
-            Row::Exit { tested, label } => {
-                let piece = line.part.exit_piece(&line.shape, cursor.exits);
-                cursor.exits += 1;
-                return leave::<D>(table, &cursor.walk, tested, label, piece);
-            }
-            Row::Join => {}
+impl<'a> Walker<'a> {
+    ghost use Rattle.validator.specs.Held.{held};
+    ghost use Rattle.validator.specs.Walkers.{left, ComesIn, ComesTo};
+
+    /// A walk of a line from an entry that the line has: the piece of the entry's join is walked first.
+    pub(crate) fn enter<D: Domain>(
+        line: LineRows<'a>,
+        entry: u8,
+        start: &Walk,
+        terms: &mut Terms,
+    ) -> Walker<'a>
+        requires room { terms.old.table.len + 16 ≤ 512 }
+        requires entry { entry ≤ line.shape.joins }
+        ensures few { terms.new.table.len ≤ terms.old.table.len + 16 }
+        ensures onward { ComesIn D.meaning line.entry entry (held terms.old) start.now (held terms.new) result }
+    {
+        let main = line.part.main(line.side, &line.shape);
+        let mut walk = *start;
+        if entry == 0 {
+            return Walker {
+                line,
+                ahead: main,
+                exits: 0,
+                walk,
+            };
+        }
+        let join = entry as usize - 1;
+        let Position { place, exits } = below(main, join);
+        walk.acts::<D>(terms, line.part.piece(&line.shape, Piece::OfJoin(join)));
+        Walker {
+            line,
+            ahead: &main[place..],
+            exits,
+            walk,
         }
     }
-    Reached {
-        condition: None,
-        label: line.shape.end(),
-        walk: cursor.walk,
+
+    /// Walks on to the next stop: an exit, or the end of the line.
+    pub(crate) fn next_stop<D: Domain>(&mut self, terms: &mut Terms) -> Reached
+        requires room { terms.old.table.len + left self.old ≤ 512 }
+        ensures few { terms.new.table.len + left self.new ≤ terms.old.table.len + left self.old }
+        ensures onward { is_some result.condition ≡ true → length self.new.ahead.now < length self.old.ahead.now }
+        ensures stopped { ComesTo D.meaning (held terms.old) self.old (held terms.new) self.new result }
+    {
+        while let Some((row, rest)) = self.ahead.split_first() {
+            self.ahead = rest;
+            match *row {
+                Row::Act(action) => self.walk.act::<D>(terms, action),
+                Row::Exit { tested, label } => {
+                    let piece = self
+                        .line
+                        .part
+                        .piece(&self.line.shape, Piece::OfExit(self.exits));
+                    self.exits += 1;
+                    return self.walk.leave::<D>(terms, tested, label, piece);
+                }
+                Row::Join => {}
+            }
+        }
+        Reached {
+            condition: None,
+            label: self.line.shape.end(),
+            walk: self.walk,
+        }
     }
 }

@@ -1,26 +1,16 @@
-use Rattle.std.proofs.Common.{◌≡◌, not, sym, ap, ◌∙◌, arith}
-use Rattle.std.proofs.lemmas.Bool.{eq-eqb, ne_eqb}
+use Rattle.std.proofs.Common.{◌≡◌, ℕ, ◌<◌, true, false, rules}
+use Rattle.std.proofs.iter.runs.Made.{chains}
 use Rattle.validator.specs.declared.verdict.Reason.TheVariants.{Bank}
-use Rattle.validator.specs.Comparison.{found, lowest}
 use Rattle.validator.specs.Numbers.{unlike}
-use Rattle.validator.proofs.Lowest.{first_below_more, first_below_at}
+use Rattle.validator.proofs.Lowest.{lowest_at}
 use Rattle.validator.proofs.differing.differ_banks.Goals as goal
-
-pub loop-k-preserved : goal.loop-k-preserved
-loop-k-preserved c =
-    let at = c.args.at in
-    first_below_more (λ i. found at.from at.stop (unlike c.args.x.now.banks c.args.y.now.banks i) Bank i) _ c.loop-k.invariant
-    (ap (λ b. found at.from at.stop (not b) Bank c.loop-k.k) (eq-eqb _ _ c.if-x-k.false))
-
-pub returns-then-x-k : goal.returns-then-x-k
-returns-then-x-k c =
-    let at = c.args.at in
-    c.found.ensures
-    ∙ sym (first_below_at (λ i. found at.from at.stop (unlike c.args.x.now.banks c.args.y.now.banks i) Bank i) 4 _ _ c.loop-k-test.true c.loop-k.invariant
-    (ap (λ b. found at.from at.stop (not b) Bank c.loop-k.k) (ne_eqb _ _ c.if-x-k.true)))
 
 pub returns : goal.returns
 returns c =
-    let at = c.args.at in
-    let e : c.loop-k.k ≡ 4 = omega arith in
-    sym c.loop-k.invariant ∙ ap (λ n. lowest at.from at.stop n (unlike c.args.x.now.banks c.args.y.now.banks) Bank) e
+    let xs = c.args.x.now.banks in
+    let ys = c.args.y.now.banks in
+    let i = c.in_ok-lowest.lowest in
+    let inside : i < 4 = search (rules, chains) in
+    let below : (k : ℕ) → k < i → unlike xs ys k ≡ false = λ k l. search (rules, chains) in
+    let here : unlike xs ys i ≡ true = search (rules, chains) in
+    rw c.mismatch.ensures (lowest_at c.args.at.from c.args.at.stop Bank 4 (unlike xs ys) i inside below here)

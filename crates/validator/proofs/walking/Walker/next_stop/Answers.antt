@@ -1,0 +1,40 @@
+use Rattle.std.proofs.Common.{◌≡◌, ◌∷◌, length, ap, arith, rules}
+use Rattle.region.specs.Parts.{rows_of}
+use Rattle.region.specs.Kept.{kept}
+use Rattle.validator.proofs.Stops.{past_action, past_join, at_exit, at_end}
+use Rattle.validator.proofs.walking.Walker.next_stop.Goals as goal
+
+pub loop-row-preserved-in-Act : goal.loop-row-preserved-in-Act
+loop-row-preserved-in-Act g c =
+    let now = c.loop-row.self in
+    let first : now.ahead.now ≡ c.in-Some.row.now ∷ c.in-Some.rest.now = search rules in
+    record {
+      few = omega (arith, ap length first);
+      shorter = omega (arith, ap length first);
+      onward = λ live s tidy h.
+          past_action g.D.Domain.meaning live (rows_of now.line.part) (kept now.line.shape) now.exits _ _ _ _ _ (c.loop-row.invariant.onward live s tidy h)
+          _ _ first c.in-Act.action _ _ c.in-Act.is c.act.ensures.acts;
+    }
+
+pub returns-in-Exit-clause-stopped : goal.returns-in-Exit-clause-stopped
+returns-in-Exit-clause-stopped g c live s tidy h =
+    let now = c.loop-row.self in
+    let first : now.ahead.now ≡ c.in-Some.row.now ∷ c.in-Some.rest.now = search rules in
+    at_exit g.D.Domain.meaning live (rows_of now.line.part) (kept now.line.shape) now.exits _ _ _ _ _ (c.loop-row.invariant.onward live s tidy h)
+    _ _ first c.in-Exit.tested c.in-Exit.label _ _ _ c.in-Exit.is c.piece-piece.ensures.rows c.leave.ensures.leaves
+
+pub loop-row-preserved : goal.loop-row-preserved
+loop-row-preserved g c =
+    let now = c.loop-row.self in
+    let first : now.ahead.now ≡ c.in-Some.row.now ∷ c.in-Some.rest.now = search rules in
+    record {
+      few = omega (arith, ap length first);
+      shorter = omega (arith, ap length first);
+      onward = λ live s tidy h.
+          past_join g.D.Domain.meaning live (rows_of now.line.part) (kept now.line.shape) now.exits _ _ _ _ _ (c.loop-row.invariant.onward live s tidy h) _ _ first c.in-Join.is;
+    }
+
+pub returns-clause-stopped : goal.returns-clause-stopped
+returns-clause-stopped g c live s tidy h =
+    let now = c.loop-row.self in
+    at_end g.D.Domain.meaning live (rows_of now.line.part) (kept now.line.shape) now.exits _ _ _ _ _ (c.loop-row.invariant.onward live s tidy h) _ _ c.end.ensures (search rules)
