@@ -1,5 +1,5 @@
 -- Main rows, row by row, and the places that they make.
-use Rattle.std.proofs.Common.{◌≡◌, ℕ, zero, suc, ◌+◌, ◌-◌, ◌<◌, ◌≤◌, Bool, true, false, cond, List, [], ◌∷◌, length, get_or, drop, is_some, sym, refl, ap, ◌∙◌}
+use Rattle.std.proofs.Common.{◌≡◌, ℕ, zero, suc, ◌+◌, ◌-◌, ◌<◌, ◌≤◌, true, false, cond, List, [], ◌∷◌, length, get_or, drop, is_some, sym, refl, ap, ◌∙◌}
 use Rattle.std.proofs.lemmas.List.{drop_all}
 use Rattle.domain.specs.Meaning.{Meaning}
 use Rattle.region.specs.declared.numbers.LabelNumber.{LabelNumber}
@@ -83,24 +83,15 @@ module _ {W : Type 0} (m : Meaning W) (part : List Row) (sh : Kept) where
     run_start : Start → Ended W
     run_start s = perform m s.piece σ (run_places m sh.end s.places)
 
-    run_below : run m (assembled side part sh) e σ ≡ perform m (actions (join_rows part sh j)) σ (run_rows m part sh exits (drop place main))
+    -- y is what the join's piece and the rows below the join come to
+    pub run_below : (piece : List Row) (y : Ended W) → piece ≡ join_rows part sh j → perform m (actions piece) σ (run_rows m part sh exits (drop place main)) ≡ y
+        → y ≡ run m (assembled side part sh) e σ
     unfolding run_start
-    run_below =
-        ap (λ n. run m (assembled side part sh) n σ) p
+    run_below piece y g d =
+        sym
+        (ap (λ n. run m (assembled side part sh) n σ) p
         ∙ ap (λ rs. run_start (entered (suc j) (places_of part sh 0 0 sh.joins rs))) (sym q)
         ∙ ap run_start h
         ∙ ap (perform m (actions (join_rows part sh j)) σ) (λ i τ. places_run exits (suc j) (sh.joins - suc j) (drop place main) τ i)
-
-    module _ (piece : List Row) (piece_is : piece ≡ join_rows part sh j) (b : Bool) (τ : List W)
-        (did : (rest : List W → Ended W) → perform m (actions piece) σ rest ≡ cond b (rest τ) (trapped m τ)) where
-      after_piece : run m (assembled side part sh) e σ ≡ cond b (run_rows m part sh exits (drop place main) τ) (trapped m τ)
-      after_piece = run_below ∙ ap (λ rs. perform m (actions rs) σ (run_rows m part sh exits (drop place main))) (sym piece_is) ∙ did (run_rows m part sh exits (drop place main))
-
-      pub piece_traps : b ≡ false → trapped m τ ≡ run m (assembled side part sh) e σ
-      piece_traps f = sym (after_piece ∙ ap (λ c. cond c (run_rows m part sh exits (drop place main) τ) (trapped m τ)) f)
-
-      pub piece_goes : (rows : List Row) (z : Ended W) → b ≡ true → rows ≡ drop place main → z ≡ run_rows m part sh exits rows τ
-          → z ≡ run m (assembled side part sh) e σ
-      piece_goes rows z f g d =
-          d ∙ ap (λ rs. run_rows m part sh exits rs τ) g
-          ∙ sym (after_piece ∙ ap (λ c. cond c (run_rows m part sh exits (drop place main) τ) (trapped m τ)) f)
+        ∙ ap (λ rs. perform m (actions rs) σ (run_rows m part sh exits (drop place main))) (sym g)
+        ∙ d)
