@@ -16,7 +16,7 @@ ended m (Some l) σ = reached m l σ
 ended m None σ = trapped m σ
 
 module _ {W : Type 0} (m : Meaning W) (part : List Row) (sh : Kept) where
-  unfoldable pub run_rows : ℕ → List Row → List W → Ended W
+  abbrev pub run_rows : ℕ → List Row → List W → Ended W
   run_rows k [] σ = reached m sh.end σ
   run_rows k (Act a ∷ rs) σ = onward m (step m a σ) σ (run_rows k rs)
   run_rows k (Exit t l ∷ rs) σ =
