@@ -6,3 +6,4 @@ pub mod Trapping
 pub mod Tagged
 pub mod TaggedLaws
 pub mod Ranges
+pub mod Numbered

@@ -1,7 +1,7 @@
 -- What a domain of words means, and when it is lawful.
 use Rattle.std.specs.Prelude.{◌≡◌, ℕ, Bool, true, false, ◌≢◌, None, Option}
 use Rattle.domain.specs.declared.op.Op.{Op}
-use Rattle.domain.specs.declared.slot.Slot.{Slot}
+use Rattle.domain.specs.Slots.{Slot}
 
 -- The six functions of a domain whose words are W; may_trap has a second part, for addresses. None is a trap.
 pub record Meaning (W : Type 0) : Type 0 where

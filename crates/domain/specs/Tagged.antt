@@ -2,7 +2,7 @@
 use Rattle.std.specs.Prelude.{Bool, true, false, ◌&&◌, Some, None, Option}
 use Rattle.domain.specs.declared.op.Op.{Op}
 use Rattle.domain.specs.declared.op.Op.TheVariants.{Add, Sub, Mul, Div, Lt, Eq, And, Or}
-use Rattle.domain.specs.declared.slot.Slot.{Slot}
+use Rattle.domain.specs.Slots.{Slot}
 use Rattle.domain.specs.declared.tagged.Tag.{Tag}
 use Rattle.domain.specs.declared.tagged.Tag.TheVariants.{Number, Address}
 use Rattle.domain.specs.declared.tagged.Tagged.{Tagged}

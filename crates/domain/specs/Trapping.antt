@@ -4,10 +4,9 @@ use Rattle.std.specs.Int.{w32}
 use Rattle.std.proofs.Common.{to_z, of_z}
 use Rattle.domain.specs.declared.op.Op.{Op}
 use Rattle.domain.specs.declared.op.Op.TheVariants.{Add, Sub, Mul, Div, Lt, Eq, And, Or}
-use Rattle.domain.specs.declared.slot.Slot.{Slot}
 use Rattle.domain.specs.declared.trapping.Trapping.{Trapping}
 use Rattle.domain.specs.Meaning.{Meaning}
-use Rattle.domain.specs.Slots.{slot_at}
+use Rattle.domain.specs.Slots.{Slot, slot_at}
 use Rattle.domain.specs.Wrapping.{commuting_words}
 
 abbrev pub word : ℤ → Trapping

@@ -5,12 +5,14 @@
 ghost use Rattle.std.specs.Prelude.{◌≡◌};
 ghost use Rattle.domain.specs.Meaning.{Meaning, Lawful};
 
+mod below;
 mod op;
 mod slot;
 mod tagged;
 mod trapping;
 mod wrapping;
 
+pub use below::Below;
 pub use op::Op;
 pub use slot::Slot;
 pub use tagged::{Tag, Tagged};

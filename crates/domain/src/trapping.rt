@@ -7,8 +7,6 @@ ghost use Rattle.std.proofs.lemmas.Nat.{and_comm, or_comm};
 
 use super::{Domain, Op, Slot};
 
-const LAST_SLOT: i32 = 15;
-
 /// A number of 32 bits with a sign.
 #[derive(Clone, Copy, PartialEq, Eq)]
 pub struct Trapping {
@@ -19,13 +17,8 @@ pub struct Trapping {
 fn fit(exact: i64) -> Option<Trapping>
     ensures { result ≡ fitting exact }
 {
-    if exact < -2147483648 || exact > 2147483647 {
-        None
-    } else {
-        Some(Trapping {
-            value: exact as i32,
-        })
-    }
+    let value = i32::try_from(exact).ok()?;
+    Some(Trapping { value })
 }
 
 fn product(x: i32, y: i32) -> Option<Trapping>
@@ -45,11 +38,8 @@ fn quotient(x: i32, y: i32) -> Option<Trapping>
 fn addressed_cell(value: i32) -> Option<Slot>
     ensures { result ≡ addressed value }
 {
-    if value < 0 || value > LAST_SLOT {
-        None
-    } else {
-        Slot::new(value as u8)
-    }
+    let index = usize::try_from(value).ok()?;
+    Slot::new(index)
 }
 
 impl Domain for Trapping {
@@ -99,10 +89,7 @@ impl Domain for Trapping {
     }
 
     fn may_trap(op: Op) -> bool {
-        match op {
-            Op::Add | Op::Sub | Op::Mul | Op::Div => true,
-            Op::Lt | Op::Eq | Op::And | Op::Or => false,
-        }
+        matches!(op, Op::Add | Op::Sub | Op::Mul | Op::Div)
     }
 
     fn may_trap_address() -> bool {
@@ -110,9 +97,6 @@ impl Domain for Trapping {
     }
 
     fn commutes(op: Op) -> bool {
-        match op {
-            Op::Add | Op::Mul | Op::Eq | Op::And | Op::Or => true,
-            Op::Sub | Op::Div | Op::Lt => false,
-        }
+        op.is_symmetric()
     }
 }

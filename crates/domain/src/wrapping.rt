@@ -49,7 +49,7 @@ impl Domain for Wrapping {
     }
 
     fn slot(self) -> Option<Slot> {
-        Slot::new((self.value % 16) as u8)
+        Slot::new((self.value % 16) as usize)
     }
 
     fn may_trap(_op: Op) -> bool {
@@ -61,9 +61,6 @@ impl Domain for Wrapping {
     }
 
     fn commutes(op: Op) -> bool {
-        match op {
-            Op::Add | Op::Mul | Op::Eq | Op::And | Op::Or => true,
-            Op::Sub | Op::Div | Op::Lt => false,
-        }
+        op.is_symmetric()
     }
 }

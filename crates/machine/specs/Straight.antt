@@ -2,7 +2,7 @@
 -- The runs that it gives are shown to be those of the places that the rows make.
 use Rattle.std.specs.Prelude.{ℕ, ◌+◌, cond, List, [], ◌∷◌, Some, None, Option}
 use Rattle.domain.specs.Meaning.{Meaning}
-use Rattle.region.specs.declared.numbers.LabelNumber.{LabelNumber}
+use Rattle.region.specs.Numbers.{LabelNumber}
 use Rattle.region.specs.declared.row.Row.{Row}
 use Rattle.region.specs.declared.row.Row.TheVariants.{Act, Exit, Join}
 use Rattle.region.specs.Kept.{Kept}

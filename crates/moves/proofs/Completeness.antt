@@ -1,7 +1,7 @@
 -- What the moves derive passes.
 use Rattle.std.proofs.Common.{ℕ, zero, suc, not, List, Some, None, Option, sym, refl, ap, ◌∙◌}
 use Rattle.domain.specs.Meaning.{Meaning}
-use Rattle.region.specs.declared.numbers.LabelNumber.{LabelNumber}
+use Rattle.region.specs.Numbers.{LabelNumber}
 use Rattle.region.specs.Lines.{Line}
 use Rattle.validator.specs.Terms.{Term}
 use Rattle.validator.specs.Walks.{Basis, basis, Symbols, Stop, at_entry, walk}

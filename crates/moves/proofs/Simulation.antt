@@ -3,11 +3,9 @@ use Rattle.std.proofs.Common.{◌≡◌, ℕ, ◌+◌, ◌-◌, ◌*◌, ◌<◌
 use native.Mathlib.Decide.{dec_lt}
 use lib.Seq.{take-set-lt, take-set-le, drop-set-add}
 use Rattle.std.proofs.lemmas.Bool.{eqb-true, eqb-false, or_right, cond_both}
-use Rattle.domain.specs.declared.slot.Slot.{Slot}
+use Rattle.domain.specs.Slots.{Slot}
 use Rattle.domain.specs.Meaning.{Meaning, Lawful}
-use Rattle.region.specs.declared.numbers.Register.{Register}
-use Rattle.region.specs.declared.numbers.Bank.{Bank}
-use Rattle.region.specs.declared.numbers.LabelNumber.{LabelNumber}
+use Rattle.region.specs.Numbers.{Register, Bank, LabelNumber}
 use Rattle.region.specs.declared.outcome.Outcome.TheVariants.{Reached, Trapped}
 use Rattle.region.specs.declared.row.Action.{Action}
 use Rattle.region.specs.declared.row.Action.TheVariants.{Operate, Literal, Load, Store}

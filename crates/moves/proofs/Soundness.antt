@@ -4,7 +4,7 @@ use mathlib.Core.Bool.{false≢true}
 use mathlib.Core.HLevel.{is_prop→PathP}
 use native.Mathlib.Bridge.{le_prop}
 use Rattle.domain.specs.Meaning.{Meaning, Lawful}
-use Rattle.region.specs.declared.numbers.LabelNumber.{LabelNumber}
+use Rattle.region.specs.Numbers.{LabelNumber}
 use Rattle.region.specs.Machine.{Ended, run}
 use Rattle.validator.specs.Terms.{Term, same}
 use Rattle.validator.specs.Walks.{Basis, basis, Stop, walk}

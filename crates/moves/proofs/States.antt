@@ -3,7 +3,7 @@ use Rattle.std.proofs.Common.{◌≡◌, ℕ, Bool, true, false, cond, ◌||◌,
 use mathlib.Core.Bool.{false≢true}
 use Rattle.std.proofs.lemmas.Bool.{eq-eqb, or_left, or_right, or_parts}
 use Rattle.domain.specs.declared.op.Op.{Op}
-use Rattle.region.specs.declared.numbers.Register.{Register}
+use Rattle.region.specs.Numbers.{Register}
 use Rattle.region.specs.declared.row.Action.{Action}
 use Rattle.region.specs.declared.row.Action.TheVariants.{Operate, Literal, Load, Store}
 use Rattle.validator.specs.Terms.{Term, same, Same, same_literal, same_operate, same_turned, same_load, same_store}

@@ -2,8 +2,7 @@
 use Rattle.std.proofs.Common.{◌≡◌, ℕ, zero, suc, Bool, true, false, not, List, [], ◌∷◌, ◌++◌, map, Some, None, sym, refl, ap, ◌∙◌, append-nil}
 use mathlib.Core.Bool.{false≢true}
 use Rattle.std.proofs.lemmas.Bool.{not-false}
-use Rattle.region.specs.declared.numbers.Register.{Register}
-use Rattle.region.specs.declared.numbers.LabelNumber.{LabelNumber}
+use Rattle.region.specs.Numbers.{Register, LabelNumber}
 use Rattle.region.specs.declared.row.Action.{Action}
 use Rattle.region.specs.Lines.{Place, act, exit, join, Line, joins}
 use Rattle.validator.specs.Terms.{Term}

@@ -6,8 +6,7 @@ use Rattle.domain.specs.declared.op.Op.{Op}
 use Rattle.domain.specs.declared.op.Op.TheVariants.{Add, Sub, Lt}
 use Rattle.domain.specs.Trapping.{trapping}
 use Rattle.domain.specs.Wrapping.{wrapping}
-use Rattle.region.specs.declared.numbers.Register.{Register}
-use Rattle.region.specs.declared.numbers.LabelNumber.{LabelNumber}
+use Rattle.region.specs.Numbers.{Register, LabelNumber}
 use Rattle.region.specs.declared.row.Action.{Action}
 use Rattle.region.specs.declared.row.Action.TheVariants.{Operate, Literal, Load, Store}
 use Rattle.region.specs.Lines.{Place, act, exit, join}

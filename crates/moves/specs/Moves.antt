@@ -1,8 +1,7 @@
 -- The moves of a trace scheduler, as a relation between lines. What moves are actions; exits and joins stay in their order.
 use Rattle.std.specs.Prelude.{◌≡◌, ℕ, Bool, true, false, ◌||◌, List, [], ◌∷◌, ◌++◌, map, ◌==◌}
 use Rattle.domain.specs.declared.op.Op.{Op}
-use Rattle.region.specs.declared.numbers.Register.{Register}
-use Rattle.region.specs.declared.numbers.LabelNumber.{LabelNumber}
+use Rattle.region.specs.Numbers.{Register, LabelNumber}
 use Rattle.region.specs.declared.row.Action.{Action}
 use Rattle.region.specs.declared.row.Action.TheVariants.{Operate, Literal, Load, Store}
 use Rattle.region.specs.Lines.{Place, act, exit, join, Line}

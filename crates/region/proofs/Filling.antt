@@ -1,12 +1,15 @@
--- Main rows as they are put in.
-use Rattle.std.proofs.Common.{◌≡◌, ℕ, suc, ◌+◌, ◌-◌, ◌<◌, ◌≤◌, true, List, [], ◌∷◌, ◌++◌, length, take, set, replicate, sym, ap, ◌∙◌, ap₂, append_assoc, add_assoc, arith, length-append, length-take}
-use Rattle.std.proofs.lemmas.Bool.Decides.{nat_tests}
+-- Rows as they are put in.
+use Rattle.std.proofs.Common.{◌≡◌, ℕ, suc, ◌+◌, ◌-◌, ◌<◌, ◌≤◌, false, ◌&&◌, nat_le, List, [], ◌∷◌, ◌++◌, length, take, set, replicate, sym, ap, ◌∙◌, ap₂, append_assoc, add_assoc, arith, length-append, length-take}
 use lib.ListN.{length-replicate}
 use Rattle.std.proofs.lemmas.List.{length-take-le, take_more_set, set_at, length_push}
+use Rattle.std.proofs.lemmas.Bool.{lt-leb}
+use Rattle.std.proofs.Math.Bool.{and-false}
 use Rattle.region.specs.declared.main_rows.MainRows.{MainRows}
+use Rattle.region.specs.declared.buffer.RowBuffer.{RowBuffer}
 use Rattle.region.specs.declared.row.Row.{Row}
-use Rattle.region.specs.Rows.{blank, laid, counted, one_exit, one_join, exits_in, joins_in, sizes_fit, main_fits}
+use Rattle.region.specs.Filled.{filled}
 use Rattle.region.specs.Listing.{listed}
+use Rattle.region.specs.Rows.{blank, laid, counted, one_exit, one_join, exits_in, joins_in, main_fits}
 
 pub counted_push : (f : Row → ℕ) (rs : List Row) (r : Row) → counted f (rs ++ r ∷ []) ≡ counted f rs + f r
 counted_push f [] r = omega arith
@@ -35,49 +38,24 @@ module _ {X : Type 0} (size n : ℕ) (x : X) (xs : List X) (few : n ≤ size) (p
       ∙ ap (λ k. (take n xs ++ r ∷ []) ++ replicate (size - k) x) (sym long)
       ∙ ap (λ ys. laid size x ys) (sym now_front)
 
-pub listed_length : (m : MainRows) → length (listed m) ≡ m.len
-listed_length m = length-take-le m.len m.rows (omega (arith, m.few, laid_size 96 m.len blank m.rows m.few m.padded))
+-- a buffer has as many rows as its length says
+module _ {N : ℕ} (b : RowBuffer N) where
+  pub places : length b.rows ≡ N
+  places = laid_size N b.len blank b.rows b.few b.padded
 
-sizes_true : (n x j : ℕ) → true ≡ sizes_fit n x j → (n ≤ 96) × (x ≤ 8) × (j ≤ 4)
-sizes_true n x j e = (grind (arith, nat_tests), grind (arith, nat_tests), grind (arith, nat_tests))
+  pub filled_length : length (filled b) ≡ b.len
+  filled_length = length-take-le b.len b.rows (omega (arith, b.few, places))
 
+-- main rows with one row more
 module _ (m : MainRows) (r : Row) (x j : ℕ) (exit_is : x ≡ one_exit r) (join_is : j ≡ one_join r) where
-  -- the sizes with one row more
-  pub fits_more : sizes_fit (m.len + 1) (m.exits + x) (m.joins + j) ≡ main_fits (listed m ++ r ∷ [])
-  fits_more =
-      let a : m.len + 1 ≡ length (listed m ++ r ∷ []) = sym (length_push (listed m) r ∙ ap (λ k. k + 1) (listed_length m)) in
-      let b : m.exits + x ≡ exits_in (listed m ++ r ∷ []) = ap₂ (λ p q. p + q) m.exits_counted exit_is ∙ sym (counted_push one_exit (listed m) r) in
-      let d : m.joins + j ≡ joins_in (listed m ++ r ∷ []) = ap₂ (λ p q. p + q) m.joins_counted join_is ∙ sym (counted_push one_join (listed m) r) in
-      rw (a, b, d)
+  pub exits_more : m.exits + x ≡ exits_in (listed m ++ r ∷ [])
+  exits_more = ap₂ (λ p q. p + q) m.exits_counted exit_is ∙ sym (counted_push one_exit (listed m) r)
 
-  module _ (fits : true ≡ sizes_fit (m.len + 1) (m.exits + x) (m.joins + j)) where
-    room : m.len < length m.rows
-    room = omega (arith, (sizes_true (m.len + 1) (m.exits + x) (m.joins + j) fits).0, laid_size 96 m.len blank m.rows m.few m.padded)
+  pub joins_more : m.joins + j ≡ joins_in (listed m ++ r ∷ [])
+  joins_more = ap₂ (λ p q. p + q) m.joins_counted join_is ∙ sym (counted_push one_join (listed m) r)
 
-    -- the row stands behind the others
-    pub put_row : take (m.len + 1) (set m.rows m.len r) ≡ listed m ++ r ∷ []
-    put_row = take_more_set m.rows m.len r room
+  pub too_many_exits : 8 < m.exits + x → false ≡ main_fits (listed m ++ r ∷ [])
+  too_many_exits h = rw (← exits_more, lt-leb (m.exits + x) 8 h, and-false (nat_le (length (listed m ++ r ∷ [])) 96))
 
-    -- and all that is kept of main rows holds again
-    pub kept_more :
-        (m.len + 1 ≤ 96) × ((m.exits + x ≤ 8) × ((m.joins + j ≤ 4)
-        × ((set m.rows m.len r ≡ laid 96 blank (take (m.len + 1) (set m.rows m.len r)))
-        × ((m.exits + x ≡ exits_in (take (m.len + 1) (set m.rows m.len r)))
-        × ((m.joins + j ≡ joins_in (take (m.len + 1) (set m.rows m.len r))) × Unit {0})))))
-    kept_more =
-        let s = sizes_true (m.len + 1) (m.exits + x) (m.joins + j) fits in (
-          s.0,
-          (
-            s.1,
-            (
-              s.2,
-              (
-                laid_more 96 m.len blank m.rows m.few m.padded r (omega (arith, s.0)),
-                (
-                  ap₂ (λ p q. p + q) m.exits_counted exit_is ∙ sym (counted_push one_exit (listed m) r) ∙ ap exits_in (sym put_row),
-                  (ap₂ (λ p q. p + q) m.joins_counted join_is ∙ sym (counted_push one_join (listed m) r) ∙ ap joins_in (sym put_row), tt),
-                ),
-              ),
-            ),
-          ),
-        )
+  pub too_many_joins : 4 < m.joins + j → false ≡ main_fits (listed m ++ r ∷ [])
+  too_many_joins h = rw (← joins_more, lt-leb (m.joins + j) 4 h, and-false (nat_le (length (listed m ++ r ∷ [])) 96 && nat_le (exits_in (listed m ++ r ∷ [])) 8))

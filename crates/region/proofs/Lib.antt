@@ -1,7 +1,5 @@
-pub mod Made
-pub mod Naming
-pub mod Filling
-pub mod Pieces
 pub mod ToJoins
 pub mod Whole
-pub mod PieceLaws
+pub mod Filling
+pub mod Schedules
+pub mod Pieces

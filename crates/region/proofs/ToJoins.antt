@@ -2,8 +2,7 @@
 use Rattle.std.proofs.Common.{◌≡◌, ℕ, zero, suc, ◌+◌, ◌-◌, ◌<◌, ◌≤◌, List, ◌∷◌, length, get_or, drop, sym, ap, ◌∙◌, ap₂, add-one, arith}
 use Rattle.std.proofs.lemmas.List.{drop_more, drop_all}
 use Rattle.region.specs.declared.row.Action.{Action}
-use Rattle.region.specs.declared.numbers.LabelNumber.{LabelNumber}
-use Rattle.region.specs.declared.numbers.Register.{Register}
+use Rattle.region.specs.Numbers.{LabelNumber, Register}
 use Rattle.region.specs.declared.row.Row.{Row}
 use Rattle.region.specs.declared.row.Row.TheVariants.{Act, Exit, Join}
 use Rattle.region.specs.Kept.{Kept}

@@ -1,6 +1,6 @@
 -- What is kept of a line beside its rows.
-use Rattle.std.specs.Prelude.{ℕ, List}
-use Rattle.region.specs.declared.numbers.LabelNumber.{LabelNumber}
+use Rattle.std.specs.Prelude.{ℕ, List, take, drop}
+use Rattle.region.specs.Numbers.{LabelNumber}
 use Rattle.region.specs.declared.shape.Shape.{Shape}
 
 -- How many main rows there are, how long the piece of each exit and of each join is, how many joins there are,
@@ -12,6 +12,6 @@ pub record Kept : Type 0 where
   pub joins : ℕ
   pub end : LabelNumber
 
--- the numbers of a shape
+-- the numbers of a shape: of its twelve pieces, eight are of exits and four of joins
 abbrev pub kept : Shape → Kept
-kept sh = record { rows = sh.rows; exits = sh.exits; entries = sh.entries; joins = sh.joins; end = sh.end }
+kept sh = record { rows = sh.rows; exits = take 8 sh.pieces; entries = drop 8 sh.pieces; joins = sh.joins; end = sh.end }

@@ -1,9 +1,11 @@
 pub mod Numbers
 pub mod Rows
+pub mod Filled
 pub mod Pieces
 pub mod Labels
 pub mod Kept
 pub mod Layout
+pub mod PieceNumbers
 pub mod Parts
 pub mod Lines
 pub mod Entries

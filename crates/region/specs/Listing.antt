@@ -1,20 +1,20 @@
 -- What main rows and pieces hold, and what is kept of a line.
-use Rattle.std.specs.Prelude.{List, map, length, take, replicate}
+use Rattle.std.specs.Prelude.{List, map, length, replicate}
 use Rattle.region.specs.declared.main_rows.MainRows.{MainRows}
 use Rattle.region.specs.declared.piece_rows.PieceRows.{PieceRows}
-use Rattle.region.specs.declared.numbers.LabelNumber.{LabelNumber}
+use Rattle.region.specs.Numbers.{LabelNumber}
 use Rattle.region.specs.declared.row.Row.{Row}
+use Rattle.region.specs.Filled.{filled}
 use Rattle.region.specs.Kept.{Kept}
 use Rattle.region.specs.Rows.{joins_in}
-use Rattle.region.specs.Pieces.{pieces_in}
 
 -- the rows that were put in
 abbrev pub listed : MainRows → List Row
-listed m = take m.len m.rows
+listed m = filled m.rows
 
 -- the twelve pieces, with the rows that were put in
 abbrev pub listed_pieces : PieceRows → List (List Row)
-listed_pieces p = pieces_in p.lens p.rows
+listed_pieces p = map filled p.pieces
 
 -- what is kept of a source with these rows: it has no pieces
 abbrev pub source_kept : List Row → LabelNumber → Kept

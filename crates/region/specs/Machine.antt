@@ -1,7 +1,7 @@
 -- The machine: how a line runs on a state of words.
 use Rattle.std.specs.Prelude.{ℕ, ◌+◌, ◌*◌, cond, List, [], ◌∷◌, length, Some, None, Ok, Err, Option, Result, ◌==◌, nat_lt, slice_index_or, slice_set}
 use Rattle.domain.specs.Meaning.{Meaning}
-use Rattle.region.specs.declared.numbers.LabelNumber.{LabelNumber}
+use Rattle.region.specs.Numbers.{LabelNumber}
 use Rattle.region.specs.declared.outcome.Misfit.{Misfit}
 use Rattle.region.specs.declared.outcome.Misfit.TheVariants as misfit
 use Rattle.region.specs.declared.outcome.Outcome.{Outcome}

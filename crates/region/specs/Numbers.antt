@@ -1,18 +1,25 @@
 -- The numbers that rows hold: a value for each number in its range, and none for any other.
 use Rattle.std.specs.Prelude.{ℕ, Option}
-use Rattle.domain.specs.Ranged.{below}
-use Rattle.region.specs.declared.numbers.Register.{Register}
-use Rattle.region.specs.declared.numbers.Bank.{Bank}
-use Rattle.region.specs.declared.numbers.LabelNumber.{LabelNumber}
+use Rattle.domain.specs.declared.below.Below.{Below}
+use Rattle.domain.specs.Numbered.{numbered}
+
+abbrev pub Register : Type 0
+Register = Below 16
+
+abbrev pub Bank : Type 0
+Bank = Below 4
+
+abbrev pub LabelNumber : Type 0
+LabelNumber = Below 9
 
 -- registers are 0 to 15
 abbrev pub register_at : ℕ → Option Register
-register_at = below 16 (λ n h. record { index = n; fits = h })
+register_at = numbered 16
 
 -- banks are 0 to 3
 abbrev pub bank_at : ℕ → Option Bank
-bank_at = below 4 (λ n h. record { index = n; fits = h })
+bank_at = numbered 4
 
 -- labels are 0 to 8
 abbrev pub label_at : ℕ → Option LabelNumber
-label_at = below 9 (λ n h. record { index = n; fits = h })
+label_at = numbered 9

@@ -23,11 +23,6 @@ abbrev pub laid_pieces : List (List Row) → List Row
 laid_pieces [] = []
 laid_pieces (p ∷ ps) = laid 16 blank p ++ laid_pieces ps
 
--- the pieces of these lengths that lie so in rows
-abbrev pub pieces_in : List ℕ → List Row → List (List Row)
-pieces_in [] rs = []
-pieces_in (n ∷ ns) rs = take n rs ∷ pieces_in ns (drop 16 rs)
-
 -- the rows of a schedule as they lie in a region: the main line, the pieces of its exits, the pieces of its joins
 abbrev pub schedule_rows : (main : List Row) (exits joins : List (List Row)) → List Row
 schedule_rows main exits joins = laid 96 blank main ++ (laid_pieces exits ++ laid_pieces joins)

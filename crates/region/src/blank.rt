@@ -11,7 +11,7 @@ impl Row {
         ensures { result ≡ unused }
     {
         Row::Act(Action::Literal {
-            to: Register::first(),
+            to: Register::new(0).unwrap(),
             value: 0,
         })
     }

@@ -2,7 +2,7 @@
 mod naming;
 
 /// A label's name: 1 to 8 characters a-z or 0-9, followed by zero bytes. Only `Name::new` makes one.
-#[derive(Clone, Copy)]
+#[derive(Clone, Copy, PartialEq, Eq)]
 pub struct Name {
     bytes: [u8; 8],
 }

@@ -2,13 +2,16 @@
 #![tactic(auto)]
 
 mod blank;
+mod buffer;
 mod entering;
+mod full;
 mod label;
 mod layout;
 mod main_rows;
 mod numbers;
 mod outcome;
 mod part;
+mod piece;
 mod piece_rows;
 mod position;
 mod row;
@@ -16,6 +19,7 @@ mod shape;
 mod side;
 
 pub use entering::below;
+pub use full::Full;
 pub use label::{LabelRow, Name};
 pub use layout::{
     EXIT_PIECES, EXITS, JOIN_PIECES, JOINS, MAIN_ROWS, PIECE_ROWS, PIECES, REGION_LABELS,
@@ -25,6 +29,7 @@ pub use main_rows::MainRows;
 pub use numbers::{Bank, LabelNumber, Register};
 pub use outcome::{Misfit, Outcome};
 pub use part::Part;
+pub use piece::Piece;
 pub use piece_rows::PieceRows;
 pub use position::Position;
 pub use row::{Action, Row};

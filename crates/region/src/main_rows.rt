@@ -1,8 +1,9 @@
 // The main rows of a line as they are put in.
-ghost use Rattle.std.specs.Prelude.{◌≡◌, ◌≤◌, take};
-ghost use Rattle.region.specs.Rows.{blank, exits_in, joins_in, laid};
+ghost use Rattle.std.specs.Prelude.{◌≡◌, ◌≤◌};
+ghost use Rattle.region.specs.Filled.{filled};
+ghost use Rattle.region.specs.Rows.{exits_in, joins_in};
 
-use super::row::Row;
+use super::buffer::RowBuffer;
 
 mod pushing;
 mod reading;
@@ -11,14 +12,11 @@ mod reading;
 /// There are never more than 96, with 8 exits and 4 joins.
 #[derive(Clone, Copy)]
 pub struct MainRows {
-    rows: [Row; 96],
-    len: u8,
+    pub(crate) rows: RowBuffer<96>,
     exits: u8,
     joins: u8,
-    ghost few: { len ≤ 96 },
     ghost few_exits: { exits ≤ 8 },
     ghost few_joins: { joins ≤ 4 },
-    ghost padded: { rows ≡ laid 96 blank (take len rows) },
-    ghost exits_counted: { exits ≡ exits_in (take len rows) },
-    ghost joins_counted: { joins ≡ joins_in (take len rows) },
+    ghost exits_counted: { exits ≡ exits_in (filled rows) },
+    ghost joins_counted: { joins ≡ joins_in (filled rows) },
 }

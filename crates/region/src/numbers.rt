@@ -1,27 +1,11 @@
-// The numbers that a row may hold. Each is a type of its own, which cannot hold a number out of its range.
-ghost use Rattle.std.specs.Prelude.{◌<◌};
-
-mod banks;
-mod labels;
-mod registers;
+// The numbers that a row may hold. None can hold a number out of its range.
+use domain::Below;
 
 /// A register: 0 to 15.
-#[derive(Clone, Copy)]
-pub struct Register {
-    index: u8,
-    ghost fits: { index < 16 },
-}
+pub type Register = Below<16>;
 
 /// A bank of sixteen cells: 0 to 3.
-#[derive(Clone, Copy)]
-pub struct Bank {
-    index: u8,
-    ghost fits: { index < 4 },
-}
+pub type Bank = Below<4>;
 
 /// A label, by its place in the order of declaration: 0 to 8.
-#[derive(Clone, Copy)]
-pub struct LabelNumber {
-    index: u8,
-    ghost fits: { index < 9 },
-}
+pub type LabelNumber = Below<9>;

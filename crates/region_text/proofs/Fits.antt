@@ -3,7 +3,7 @@ use Rattle.std.proofs.Common.{◌≡◌, ℕ, zero, suc, ◌+◌, ◌<◌, ◌�
 use Rattle.std.proofs.lemmas.List.{length_push, length-set}
 use Rattle.std.proofs.lemmas.Bool.{ltb-true, leb-true, and_parts}
 use Rattle.region.specs.declared.label.LabelRow.{LabelRow}
-use Rattle.region.specs.declared.numbers.LabelNumber.{LabelNumber}
+use Rattle.region.specs.Numbers.{LabelNumber}
 use Rattle.region.specs.declared.row.Row.{Row}
 use Rattle.region.specs.declared.row.Row.TheVariants as row
 use Rattle.region.specs.Pieces.{piece_takes, put_in}

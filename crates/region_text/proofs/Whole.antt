@@ -4,7 +4,7 @@ use Rattle.std.proofs.lemmas.List.{map-append, length-map}
 use Rattle.numbering.specs.declared.kind.Kind.{Ghosts}
 use Rattle.numbering.specs.declared.table.Table.{Table}
 use Rattle.numbering.specs.Used.{used}
-use Rattle.region.specs.declared.numbers.LabelNumber.{LabelNumber}
+use Rattle.region.specs.Numbers.{LabelNumber}
 use Rattle.region.specs.Labels.{unused}
 use Rattle.region.specs.Listing.{listed}
 use Rattle.region.specs.Rows.{laid}

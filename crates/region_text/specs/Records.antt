@@ -1,13 +1,12 @@
 -- What a record says.
 use Rattle.std.specs.Prelude.{ℕ, ◌+◌, cond, List, is_some, Some, None, Ok, Err, Option, Result}
 use Rattle.numbering.specs.Rows.{found}
-use Rattle.region.specs.declared.numbers.LabelNumber.{LabelNumber}
 use Rattle.region.specs.declared.row.Row.{Row}
 use Rattle.region.specs.declared.row.Row.TheVariants as row
 use Rattle.region.specs.declared.row.Action.TheVariants as action
 use Rattle.region.specs.declared.label.Name.{Name}
 use Rattle.region.specs.declared.label.LabelRow.{LabelRow}
-use Rattle.region.specs.Numbers.{register_at, bank_at, label_at}
+use Rattle.region.specs.Numbers.{LabelNumber, register_at, bank_at, label_at}
 use Rattle.region.specs.Labels.{name_at}
 use Rattle.region_text.specs.declared.fault.Fault.TheVariants.{Malformed, Label}
 use Rattle.region_text.specs.declared.fault.Spot.{Spot}

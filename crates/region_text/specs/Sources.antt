@@ -1,6 +1,6 @@
 -- What a source's text says.
 use Rattle.std.specs.Prelude.{ℕ, Bool, false, cond, not, ◌&&◌, List, [], ◌∷◌, ◌++◌, length, is_some, Some, None, Ok, Err, Option, Result, ◌==◌, nat_lt}
-use Rattle.region.specs.declared.numbers.LabelNumber.{LabelNumber}
+use Rattle.region.specs.Numbers.{LabelNumber}
 use Rattle.region.specs.declared.row.Row.{Row}
 use Rattle.region.specs.declared.row.Row.TheVariants as row
 use Rattle.region.specs.declared.label.LabelRow.{LabelRow}

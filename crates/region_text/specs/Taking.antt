@@ -1,7 +1,7 @@
 -- How a text is taken line by line: the rules that a source and a schedule share.
 -- S is what has been read, and X what the whole text says.
 use Rattle.std.specs.Prelude.{ℕ, ◌+◌, Bool, cond, List, [], ◌∷◌, Some, None, Ok, Err, Option, Result}
-use Rattle.region.specs.declared.numbers.LabelNumber.{LabelNumber}
+use Rattle.region.specs.Numbers.{LabelNumber}
 use Rattle.region_text.specs.declared.letter.Letter.{Letter}
 use Rattle.region_text.specs.declared.fault.Fault.TheVariants.{Malformed, OutOfPlace}
 use Rattle.region_text.specs.declared.fault.LineFault.{LineFault}

@@ -1,7 +1,7 @@
 -- Live masks: bit i of a label's mask stands for register i.
 use Rattle.std.specs.Prelude.{ℕ, zero, suc, ◌/◌, ◌%◌, Bool, List, ◌==◌, slice_index_or}
 use Rattle.region.specs.declared.label.LabelRow.{LabelRow}
-use Rattle.region.specs.declared.numbers.LabelNumber.{LabelNumber}
+use Rattle.region.specs.Numbers.{LabelNumber}
 use Rattle.region.specs.Labels.{unused}
 
 -- bit i of a number, from the lowest on

@@ -2,8 +2,7 @@
 use Rattle.std.specs.Prelude.{◌≡◌, ℕ, ◌<◌, Bool, true, false, cond, List, [], ◌∷◌, length, replicate, Some, None, Option, slice_index, slice_set}
 use Rattle.domain.specs.declared.op.Op.{Op}
 use Rattle.domain.specs.Meaning.{Meaning}
-use Rattle.region.specs.declared.numbers.LabelNumber.{LabelNumber}
-use Rattle.region.specs.declared.numbers.Register.{Register}
+use Rattle.region.specs.Numbers.{LabelNumber, Register}
 use Rattle.region.specs.declared.row.Action.{Action}
 use Rattle.region.specs.declared.row.Action.TheVariants.{Operate, Literal, Load, Store}
 use Rattle.region.specs.declared.row.Row.{Row}

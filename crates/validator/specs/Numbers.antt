@@ -1,7 +1,7 @@
 -- The comparison of two stops by the numbers of their terms.
 use Rattle.std.specs.Prelude.{◌≡◌, ℕ, ◌^◌, ◌<◌, Bool, true, false, not, ◌&&◌, List, [], ◌∷◌, Some, None, Option, ◌==◌, slice_index, slice_index_or}
 use Rattle.region.specs.declared.label.LabelRow.{LabelRow}
-use Rattle.region.specs.declared.numbers.LabelNumber.{LabelNumber}
+use Rattle.region.specs.Numbers.{LabelNumber}
 use Rattle.region.specs.Labels.{unused}
 use Rattle.validator.specs.declared.verdict.Mismatch.{Mismatch}
 use Rattle.validator.specs.declared.verdict.Reason.TheVariants as reason

@@ -3,7 +3,7 @@ use Rattle.std.specs.Prelude.{ℕ, Bool, false, cond, List, [], ◌∷◌, Some,
 use Rattle.domain.specs.declared.op.Op.{Op}
 use Rattle.region.specs.declared.row.Action.{Action}
 use Rattle.region.specs.declared.row.Action.TheVariants.{Operate, Literal, Load, Store}
-use Rattle.region.specs.declared.numbers.LabelNumber.{LabelNumber}
+use Rattle.region.specs.Numbers.{LabelNumber}
 use Rattle.domain.specs.Meaning.{Meaning}
 use Rattle.region.specs.Lines.{Place, act, exit, join, Line, entered}
 use Rattle.validator.specs.Terms.{Term, register_at_entry, bank_at_entry, literal, operate, load, store}

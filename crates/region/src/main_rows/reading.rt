@@ -3,6 +3,7 @@ ghost use Rattle.std.specs.Prelude.{◌≡◌, ◌≤◌, [], length};
 ghost use Rattle.region.specs.Rows.{blank, exits_in, joins_in, laid};
 ghost use Rattle.region.specs.Listing.{listed};
 
+use super::super::buffer::RowBuffer;
 use super::super::row::Row;
 use super::MainRows;
 
@@ -12,8 +13,7 @@ impl MainRows {
         ensures { listed result ≡ [] }
     {
         MainRows {
-            rows: [Row::blank(); 96],
-            len: 0,
+            rows: RowBuffer::new(),
             exits: 0,
             joins: 0,
         }
@@ -24,7 +24,7 @@ impl MainRows {
         ensures count { result ≡ length (listed self.now) }
         ensures few { result ≤ 96 }
     {
-        self.len as usize
+        self.rows.len()
     }
 
     /// How many exits were put in.
@@ -47,6 +47,6 @@ impl MainRows {
     pub fn rows(&self) -> [Row; 96]
         ensures { result ≡ laid 96 blank (listed self.now) }
     {
-        self.rows
+        self.rows.rows()
     }
 }

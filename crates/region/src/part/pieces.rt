@@ -2,12 +2,12 @@
 ghost use Rattle.std.specs.Prelude.{◌≡◌, ◌≤◌, length};
 ghost use Rattle.std.specs.Option.{option_map};
 ghost use Rattle.region.specs.Kept.{kept};
-ghost use Rattle.region.specs.Layout.{main_at, main_rows, exit_rows, join_rows};
+ghost use Rattle.region.specs.Layout.{main_at, main_rows};
 ghost use Rattle.region.specs.Parts.{part_of, rows_of};
+ghost use Rattle.region.specs.PieceNumbers.{piece_rows};
 
-use super::super::layout::{
-    EXIT_PIECES, EXITS, JOIN_PIECES, JOINS, MAIN_ROWS, PIECE_ROWS, REGION_ROWS,
-};
+use super::super::layout::{EXIT_PIECES, MAIN_ROWS, PIECE_ROWS, REGION_ROWS};
+use super::super::piece::Piece;
 use super::super::shape::Shape;
 use super::super::side::Side;
 use super::{Part, Row};
@@ -43,29 +43,16 @@ impl<'a> Part<'a> {
         &rows[at..at + shape.rows()]
     }
 
-    /// The rows of an exit's piece, counted from 0: none beyond the eighth exit.
-    pub fn exit_piece(self, shape: &Shape, k: usize) -> &'a [Row]
-        ensures rows { result.now ≡ exit_rows (rows_of self.entry) (kept shape.now) k }
+    /// The rows of a piece: none beyond the eighth exit and the fourth join.
+    pub fn piece(self, shape: &Shape, piece: Piece) -> &'a [Row]
+        ensures rows { result.now ≡ piece_rows piece (rows_of self.entry) (kept shape.now) }
         ensures few { length result.now ≤ 16 }
     {
         let rows = self.rows;
-        if k >= EXITS {
+        let Some(p) = piece.number() else {
             return &rows[0..0];
-        }
-        let at = EXIT_PIECES + PIECE_ROWS * k;
-        &rows[at..at + shape.exit_rows(k)]
-    }
-
-    /// The rows of a join's piece, counted from 0: none beyond the fourth join.
-    pub fn join_piece(self, shape: &Shape, j: usize) -> &'a [Row]
-        ensures rows { result.now ≡ join_rows (rows_of self.entry) (kept shape.now) j }
-        ensures few { length result.now ≤ 16 }
-    {
-        let rows = self.rows;
-        if j >= JOINS {
-            return &rows[0..0];
-        }
-        let at = JOIN_PIECES + PIECE_ROWS * j;
-        &rows[at..at + shape.entry_rows(j)]
+        };
+        let at = EXIT_PIECES + PIECE_ROWS * p;
+        &rows[at..at + shape.piece_rows(piece)]
     }
 }

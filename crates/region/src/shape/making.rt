@@ -1,11 +1,12 @@
 // How a shape is made and read.
-ghost use Rattle.std.specs.Prelude.{◌≡◌, ◌≤◌, slice_index};
+ghost use Rattle.std.specs.Prelude.{◌≡◌, ◌≤◌};
 ghost use Rattle.region.specs.Kept.{kept};
 ghost use Rattle.region.specs.Listing.{listed, listed_pieces, schedule_kept, source_kept};
+ghost use Rattle.region.specs.PieceNumbers.{piece_length};
 ghost use Rattle.region.specs.Pieces.{exit_pieces, join_pieces};
 
-use super::super::layout::{EXITS, JOINS};
 use super::super::main_rows::MainRows;
+use super::super::piece::Piece;
 use super::super::piece_rows::PieceRows;
 use super::{LabelNumber, Shape};
 
@@ -16,8 +17,7 @@ impl Shape {
     {
         Shape {
             rows: main.len() as u8,
-            exits: [0; 8],
-            entries: [0; 4],
+            pieces: [0; 12],
             joins: main.joins(),
             end,
         }
@@ -29,8 +29,7 @@ impl Shape {
     {
         Shape {
             rows: main.len() as u8,
-            exits: pieces.exit_lens(),
-            entries: pieces.join_lens(),
+            pieces: pieces.lens(),
             joins: main.joins(),
             end,
         }
@@ -44,23 +43,14 @@ impl Shape {
         self.rows as usize
     }
 
-    /// How long the piece of an exit is, counted from 0: 0 beyond the eighth.
-    pub fn exit_rows(&self, k: usize) -> usize
-        ensures value { result ≡ slice_index self.now.exits k }
+    /// How many rows a piece has: 0 beyond the eighth exit and the fourth join.
+    pub fn piece_rows(&self, piece: Piece) -> usize
+        ensures value { result ≡ piece_length piece (kept self.now) }
         ensures short { result ≤ 16 }
     {
-        if k < EXITS { self.exits[k] as usize } else { 0 }
-    }
-
-    /// How long the piece of a join is, counted from 0: 0 beyond the fourth.
-    pub fn entry_rows(&self, j: usize) -> usize
-        ensures value { result ≡ slice_index self.now.entries j }
-        ensures short { result ≤ 16 }
-    {
-        if j < JOINS {
-            self.entries[j] as usize
-        } else {
-            0
+        match piece.number() {
+            Some(p) => self.pieces[p] as usize,
+            None => 0,
         }
     }
 
