@@ -8,7 +8,7 @@ ghost use Rattle.machine.specs.Straight.{ended, run_rows as ran};
 
 use super::state::State;
 use domain::Domain;
-use region::{LabelNumber, Part, Position, Row, Shape, Side, below};
+use region::{LabelNumber, Part, Piece, Position, Row, Shape, Side, below};
 
 /// A line by the rows of its region and by what is kept beside them.
 #[derive(Clone, Copy)]
@@ -36,7 +36,7 @@ impl LineRows<'_> {
                 Row::Act(action) => state.step(action)?,
                 Row::Exit { tested, label } => {
                     if state.read(tested).truth() {
-                        state.perform(self.part.exit_piece(self.shape, exits))?;
+                        state.perform(self.part.piece(self.shape, Piece::OfExit(exits)))?;
                         return Some(label);
                     }
                     exits += 1;
@@ -62,7 +62,7 @@ impl LineRows<'_> {
             return self.run_rows(main, 0, state);
         }
         let Position { place, exits } = below(main, entry - 1);
-        state.perform(self.part.join_piece(self.shape, entry - 1))?;
+        state.perform(self.part.piece(self.shape, Piece::OfJoin(entry - 1)))?;
         self.run_rows(&main[place..], exits, state)
     }
 }

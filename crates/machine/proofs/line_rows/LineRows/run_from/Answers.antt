@@ -17,4 +17,4 @@ returns-clause-run g c =
     run_below g.D.Domain.meaning (rows_of l.part) (kept l.shape.now) l.side c.args.entry (c.args.entry - 1) c.main-main.result.now
     c.below-place.result.place c.below-place.result.exits c.args.state.now.words.now (omega arith) c.main-main.ensures.rows
     (c.below-place.ensures.entered (rows_of l.part) (kept l.shape.now) l.shape.now.joins (omega arith))
-    _ _ c.join_piece.ensures.rows (c.in_ok-perform.ensures.state _ ∙ sym (simp take_rest at c.run_rows-2.ensures.run))
+    _ _ c.piece.ensures.rows (c.in_ok-perform.ensures.state _ ∙ sym (simp take_rest at c.run_rows-2.ensures.run))
