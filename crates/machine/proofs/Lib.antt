@@ -1,3 +1,1 @@
-pub mod Performing
 pub mod Running
-pub mod Misfits

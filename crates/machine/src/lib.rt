@@ -1,7 +1,8 @@
 // The machine: one interpreter of a region's rows, for every domain of words.
 #![tactic(auto)]
 
-mod actions;
+mod line_rows;
 mod lines;
+mod state;
 
 pub use lines::run;

@@ -16,7 +16,6 @@ use Rattle.shelf.specs.declared.refusal.Number.TheVariants as number
 use Rattle.shelf.specs.Calls.{opening, opened, reading, is_passed}
 use Rattle.shelf.specs.Refusals.{without_place}
 use Rattle.shelf.specs.Store.{Store, empty_region}
-use Rattle.shelf.proofs.Granting.{same_store}
 use Rattle.replay.specs.declared.call.Answer.{Answer}
 use Rattle.replay.specs.declared.call.Answer.TheVariants.{Done, Judged, HandedOut, Declined}
 use Rattle.replay.specs.Requests as call
@@ -31,7 +30,7 @@ use Rattle.replay.specs.Stored.{record_of, stored}
 use Rattle.replay.proofs.ByHeld.{judged_by, source_by, schedule_by, check_by, hand_out_by, source_run_by, schedule_run_by}
 use Rattle.replay.proofs.Keeping.{blank_in_order}
 use Rattle.replay.proofs.ReadBack.{joins_said}
-use Rattle.replay.proofs.Regions.{Fits, held_fits, record_at, region_known}
+use Rattle.replay.proofs.Regions.{same_store, Fits, held_fits, record_at, region_known}
 
 -- OPEN makes at most sixteen regions, and rows and labels are as many as they own
 opening_fits : (rows labels n : ℕ) → opening rows labels ≡ Ok n → (n ≤ 16) × (rows ≡ 384 * n) × (labels ≡ 9 * n)

@@ -3,6 +3,8 @@ use Rattle.std.proofs.Common.{◌≡◌, ℕ, ◌+◌, ◌*◌, ◌<◌, ◌≤�
 use lib.ListN.{length-replicate}
 use Rattle.std.proofs.lemmas.Bool.{eq-eqb, ne_eqb, cases_eq, ltb-true}
 use Rattle.domain.specs.Meaning.{Meaning}
+use Rattle.region.specs.declared.label.LabelRow.{LabelRow}
+use Rattle.region.specs.declared.row.Row.{Row}
 use Rattle.region.specs.Labels.{unused}
 use Rattle.region.specs.Pieces.{laid_pieces}
 use Rattle.region.specs.Rows.{blank, laid}
@@ -13,8 +15,7 @@ use Rattle.region_text.proofs.Fits.{SourceFits, ScheduleFits, source_fits, sched
 use Rattle.shelf.specs.declared.refusal.Number.TheVariants as number
 use Rattle.shelf.specs.Calls.{region_of}
 use Rattle.shelf.specs.Refusals.{without_place}
-use Rattle.shelf.specs.Store.{KeptRegion, empty_region, rows_of_region, labels_of_region, written}
-use Rattle.shelf.proofs.Granting.{same_store}
+use Rattle.shelf.specs.Store.{KeptRegion, Store, empty_region, rows_of_region, labels_of_region, written}
 use Rattle.replay.specs.Requests as call
 use Rattle.replay.specs.Requests.{Request}
 use Rattle.replay.specs.Events.{Event, counts}
@@ -22,6 +23,11 @@ use Rattle.replay.specs.Held.{Held, said, said_for, held_after, held}
 use Rattle.replay.specs.Stored.{source_part, schedule_part, label_part, rows_part, record_of, in_order, stored}
 use Rattle.replay.proofs.Blocks.{in_order_same, length_in_order, part_in_order, written_in_order, written_within, getD_in_order, set_in_order}
 use Rattle.replay.proofs.ReadBack.{length_laid, length_pieces}
+
+-- stores of equal parts
+pub same_store : (n : ℕ) {ks ks' : List KeptRegion} {rows rows' : List Row} {labels labels' : List LabelRow} → ks ≡ ks' → rows ≡ rows' → labels ≡ labels'
+    → ◌≡◌ {A = Store} (record { count = n; regions = ks; rows = rows; labels = labels }) (record { count = n; regions = ks'; rows = rows'; labels = labels' })
+same_store n p q r = λ i. record { count = n; regions = p i; rows = q i; labels = r i }
 
 -- what is held fits its places
 abbrev pub SourceInPlace : Option Source → Type 0

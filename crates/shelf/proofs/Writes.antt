@@ -1,11 +1,6 @@
 -- Parts of lists that are written over.
-use Rattle.std.proofs.Common.{◌≡◌, ℕ, zero, suc, ◌+◌, ◌-◌, ◌≤◌, List, [], ◌∷◌, ◌++◌, map, length, take, drop, set, sym, refl, ap, ◌∙◌, append_assoc, arith, length-append, length-take-le, drop-drop, take_at, drop_at}
-use native.Mathlib.Nat.{add-sub_cancel_left}
-use borrow.Rule.Slice.PartMut.{put_mid}
+use Rattle.std.proofs.Common.{◌≡◌, ℕ, ◌+◌, ◌≤◌, List, ◌++◌, length, take, drop, sym, ap, ◌∙◌, append_assoc, arith, length-append, length-take-le, drop-drop, take_at, drop_at}
 use Rattle.shelf.specs.Store.{written}
-
-pub put_written : {X : Type 0} (at : ℕ) (xs ys zs : List X) → ys ≡ zs → put_mid at (at + length zs - at) xs ys ≡ written at zs xs
-put_written at xs ys zs e = simp (e, add-sub_cancel_left, drop-drop)
 
 -- two writes, one just behind the other
 pub written_twice : {X : Type 0} (at k : ℕ) (x y l : List X) → length x ≡ k → at + k ≤ length l
@@ -23,9 +18,3 @@ written_twice {X} at k x y l e h =
     ∙ ap (λ u. p ++ (y ++ u)) d
     ∙ append_assoc (take at l) x (y ++ drop (at + length (x ++ y)) l)
     ∙ ap (λ u. take at l ++ u) (sym (append_assoc x y (drop (at + length (x ++ y)) l)))
-
--- an element of a mapped list, and one that is put in
-pub map-set : {X Y : Type 0} (f : X → Y) (xs : List X) (i : ℕ) (x : X) → map f (set xs i x) ≡ set (map f xs) i (f x)
-map-set f [] i x = refl
-map-set f (y ∷ ys) zero x = refl
-map-set f (y ∷ ys) (suc i) x = ap (λ zs. f y ∷ zs) (map-set f ys i x)

@@ -1,6 +1,8 @@
 -- What each call answers, and the store that it leaves.
 use Rattle.std.specs.Prelude.{ℕ, ◌+◌, ◌*◌, ◌/◌, Bool, true, false, cond, ◌&&◌, List, [], ◌++◌, length, replicate, Some, None, Ok, Err, Option, Result, ◌==◌, nat_le, nat_lt, slice_index_or, slice_set}
 use Rattle.std.specs.Borrow.{Bor}
+use Rattle.std.specs.Option.{ok_or}
+use Rattle.std.specs.Result.{result_map_both}
 use Rattle.domain.specs.Meaning.{Meaning}
 use Rattle.region.specs.declared.outcome.Misfit.{Misfit}
 use Rattle.region.specs.declared.outcome.Outcome.{Outcome}
@@ -20,6 +22,7 @@ use Rattle.validator.specs.declared.unfit.Unfit.{Unfit}
 use Rattle.validator.specs.declared.verdict.Verdict.{Verdict}
 use Rattle.validator.specs.declared.verdict.Verdict.TheVariants.{Passed, Failed}
 use Rattle.validator.specs.Compared.{compared}
+use Rattle.shelf.specs.declared.place.Place.{Place}
 use Rattle.shelf.specs.declared.record.Record.{Record}
 use Rattle.shelf.specs.declared.refusal.Number.{Number}
 use Rattle.shelf.specs.declared.refusal.Number.TheVariants as number
@@ -34,25 +37,28 @@ bind (Err e) f = Err e
 
 -- what is there, or declined
 abbrev pub needed : {X : Type 0} → Number → Option X → Result X Refusal
-needed n (Some x) = Ok x
-needed n None = Err (without_place n)
+needed n o = ok_or o (without_place n)
+
+-- what a granted call answers, seen as something else
+abbrev pub on_granted : {X Y : Type 0} → (X → Y) → Result X Refusal → Result Y Refusal
+on_granted f o = result_map_both f (λ e. e) o
+
+-- what others decline, the shelf declines
+abbrev pub on_declined : {X E : Type 0} → (E → Refusal) → Result X E → Result X Refusal
+on_declined f o = result_map_both (λ x. x) f o
 
 abbrev pub from_text : {X : Type 0} → Result X TextRefusal → Result X Refusal
-from_text (Ok x) = Ok x
-from_text (Err f) = Err (of_text f)
+from_text o = on_declined of_text o
 
 abbrev pub from_run : {X : Type 0} → Result X Misfit → Result X Refusal
-from_run (Ok x) = Ok x
-from_run (Err f) = Err (of_misfit f)
+from_run o = on_declined of_misfit o
 
 abbrev pub from_unfit : {X : Type 0} → Result X Unfit → Result X Refusal
-from_unfit (Ok x) = Ok x
-from_unfit (Err f) = Err (without_place number.Sizes)
+from_unfit o = on_declined (λ _. without_place number.Sizes) o
 
 -- a call that answers nothing but that it was granted
 abbrev pub granted : {X : Type 0} → Result X Refusal → Result (Unit {0}) Refusal
-granted (Ok x) = Ok tt
-granted (Err e) = Err e
+granted o = on_granted (λ _. tt) o
 
 -- the store after a call: a declined call alters nothing
 abbrev pub settled : {X : Type 0} → Store → (X → Store) → Result X Refusal → Store
@@ -71,8 +77,11 @@ region_of st r = placed st.count st.regions (length st.rows) (length st.labels) 
 
 -- a record as plain numbers
 abbrev pub kept_answer : Result Record Refusal → Result KeptRegion Refusal
-kept_answer (Ok k) = Ok (kept_region k)
-kept_answer (Err e) = Err e
+kept_answer o = on_granted kept_region o
+
+-- the record of a region that a call found
+abbrev pub found : Result Place Refusal → Result KeptRegion Refusal
+found o = on_granted (λ p. kept_region p.record) o
 
 -- Everything that the shelf keeps of a region can be read; only an unknown region declines that.
 abbrev pub reading : Store → ℕ → Result KeptRegion Refusal
@@ -149,8 +158,7 @@ schedule_put st r d = record {
 }
 
 abbrev pub kept_line : Result Shape Refusal → Result Kept Refusal
-kept_line (Ok sh) = Ok (kept sh)
-kept_line (Err e) = Err e
+kept_line o = on_granted kept o
 
 -- RUN: the machine on the line that the region's rows hold
 module _ {W : Type 0} (m : Meaning W) where
@@ -158,8 +166,7 @@ module _ {W : Type 0} (m : Meaning W) where
   run_answer st r side e σ = bind (region_of st r) (λ k. bind (line_of side k) (λ l. from_run (run_in m side (rows_of_region st r) l e σ)))
 
 abbrev pub outcome_of : {W : Type 0} → Result (Ended W) Refusal → Result Outcome Refusal
-outcome_of (Ok z) = Ok z.outcome
-outcome_of (Err e) = Err e
+outcome_of o = on_granted (λ z. z.outcome) o
 
 -- the state after RUN: a declined one leaves it as it was
 abbrev pub state_of : {W : Type 0} → List W → Result (Ended W) Refusal → List W
@@ -203,5 +210,4 @@ hand_out_answer st r =
 
 -- what lies in the part that is handed out
 abbrev pub seen : Result (Bor (List Row)) Refusal → Result (List Row) Refusal
-seen (Ok rows) = Ok rows.now
-seen (Err e) = Err e
+seen o = on_granted (λ rows. rows.now) o

@@ -13,6 +13,8 @@ mod running;
 mod schedules;
 mod sources;
 
+// The rows and the labels stay two parameters of each call: by & or &mut it says which of the two it may alter, and one
+// struct would lend both alike.
 /// Up to sixteen regions. The shelf keeps a record of each; the rows and labels lie in memory that the caller lends
 /// to every call.
 #[derive(Clone, Copy)]

@@ -4,6 +4,7 @@
 mod keeping;
 mod lines_held;
 mod parts;
+mod place;
 mod record;
 mod refusal;
 mod refusing;

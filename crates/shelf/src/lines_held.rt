@@ -14,17 +14,10 @@ impl Record {
     pub(crate) fn line(self, side: Side) -> Result<Shape, Refusal>
         ensures { kept_line result ≡ line_of side (kept_region self) }
     {
-        let Some(source) = self.source else {
-            return Err(Refusal::of(Number::Source));
-        };
+        let source = self.source.ok_or(Number::Source)?;
         match side {
             Side::Source => Ok(source),
-            Side::Schedule => {
-                let Some(schedule) = self.schedule else {
-                    return Err(Refusal::of(Number::Schedule));
-                };
-                Ok(schedule)
-            }
+            Side::Schedule => Ok(self.schedule.ok_or(Number::Schedule)?),
         }
     }
 
@@ -33,11 +26,8 @@ impl Record {
         ensures { result ≡ passing self.mark }
     {
         match self.mark {
-            None => Err(Refusal::of(Number::NotPassed)),
-            Some(verdict) => match verdict {
-                Verdict::Passed => Ok(()),
-                Verdict::Failed(_) => Err(Refusal::of(Number::NotPassed)),
-            },
+            Some(Verdict::Passed) => Ok(()),
+            Some(Verdict::Failed(_)) | None => Err(Number::NotPassed.into()),
         }
     }
 
@@ -46,9 +36,9 @@ impl Record {
         ensures { kept_region result ≡ with_schedule (kept_region self) (kept shape) }
     {
         Record {
-            source: self.source,
             schedule: Some(shape),
             mark: None,
+            ..self
         }
     }
 
@@ -57,9 +47,8 @@ impl Record {
         ensures { kept_region result ≡ with_mark (kept_region self) verdict }
     {
         Record {
-            source: self.source,
-            schedule: self.schedule,
             mark: Some(verdict),
+            ..self
         }
     }
 }

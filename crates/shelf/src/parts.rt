@@ -1,27 +1,19 @@
 // Parts of the lent rows and labels.
-ghost use Rattle.std.specs.Prelude.{◌≡◌, ◌+◌, ◌≤◌, length, replicate};
-ghost use Rattle.region.specs.Labels.{unused};
-ghost use Rattle.region.specs.Rows.{blank};
-ghost use Rattle.shelf.specs.Store.{written};
+ghost use Rattle.std.specs.Prelude.{◌≡◌, ◌+◌, ◌≤◌, length};
+ghost use Rattle.shelf.specs.Store.{part, written};
 
-use region::{LabelRow, Row};
+// So many elements from a place on.
+pub(crate) fn part_at<T>(all: &[T], at: usize, count: usize) -> &[T]
+    requires { at + count ≤ length all.now }
+    ensures { result.now ≡ part at count all.now }
+{
+    &all[at..at + count]
+}
 
 // Writes new over what lies there.
-pub(crate) fn write_at<T: Copy>(rows: &mut [T], at: usize, new: &[T])
-    requires { at + length new.now ≤ length rows.old }
-    ensures { rows.new ≡ written at new.now rows.old }
+pub(crate) fn write_at<T: Copy>(all: &mut [T], at: usize, new: &[T])
+    requires { at + length new.now ≤ length all.old }
+    ensures { all.new ≡ written at new.now all.old }
 {
-    rows[at..at + new.len()].copy_from_slice(new);
-}
-
-pub(crate) fn blank_rows(rows: &mut [Row])
-    ensures { rows.new ≡ replicate (length rows.old) blank }
-{
-    rows.fill(Row::blank());
-}
-
-pub(crate) fn blank_labels(labels: &mut [LabelRow])
-    ensures { labels.new ≡ replicate (length labels.old) unused }
-{
-    labels.fill(LabelRow::unused());
+    all[at..at + new.len()].copy_from_slice(new);
 }

@@ -3,17 +3,10 @@ use region::Shape;
 use validator::Verdict;
 
 /// What is kept of a region: the shapes of the source and of the schedule that are held, and the mark, which is the
-/// verdict of the last check of that schedule.
-#[derive(Clone, Copy)]
+/// verdict of the last check of that schedule. A region that holds nothing has the default.
+#[derive(Clone, Copy, Default)]
 pub struct Record {
     pub source: Option<Shape>,
     pub schedule: Option<Shape>,
     pub mark: Option<Verdict>,
 }
-
-/// A region that holds nothing.
-pub(crate) const EMPTY: Record = Record {
-    source: None,
-    schedule: None,
-    mark: None,
-};

@@ -26,11 +26,11 @@ impl Number {
     }
 }
 
-impl Refusal {
-    // A refusal that has no place in a text.
-    pub(crate) fn of(number: Number) -> Refusal
-        ensures { result ≡ without_place number }
-    {
+// A refusal that is not about a text has no place in one.
+impl From<Number> for Refusal {
+    ghost from_gives = { λ n r. r ≡ without_place n };
+
+    fn from(number: Number) -> Refusal {
         Refusal {
             number,
             line: 0,
@@ -58,9 +58,9 @@ impl From<Misfit> for Refusal {
 
     fn from(f: Misfit) -> Refusal {
         match f {
-            Misfit::Rows => Refusal::of(Number::Sizes),
-            Misfit::Entry => Refusal::of(Number::Entry),
-            Misfit::State => Refusal::of(Number::State),
+            Misfit::Rows => Number::Sizes.into(),
+            Misfit::Entry => Number::Entry.into(),
+            Misfit::State => Number::State.into(),
         }
     }
 }
@@ -69,6 +69,6 @@ impl From<Unfit> for Refusal {
     ghost from_gives = { λ _ r. r ≡ without_place Sizes };
 
     fn from(_f: Unfit) -> Refusal {
-        Refusal::of(Number::Sizes)
+        Number::Sizes.into()
     }
 }

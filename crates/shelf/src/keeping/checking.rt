@@ -3,7 +3,7 @@ ghost use Rattle.std.specs.Prelude.{◌≡◌, length};
 ghost use Rattle.shelf.specs.Store.{store};
 ghost use Rattle.shelf.specs.Calls.{check_answer, check_put, settled};
 
-use super::super::record::Record;
+use super::super::parts::part_at;
 use super::super::refusal::{Number, Refusal};
 use super::Shelf;
 use domain::Domain;
@@ -25,21 +25,19 @@ impl Shelf {
         ensures room { length terms.new ≡ length terms.old }
     {
         if terms.len() < TERM_ROWS {
-            return Err(Refusal::of(Number::Sizes));
+            return Err(Number::Sizes.into());
         }
-        let record = self.placed(rows.len(), labels.len(), region)?;
-        let source = record.line(Side::Source)?;
-        let schedule = record.line(Side::Schedule)?;
-        let row = REGION_ROWS * region;
-        let label = REGION_LABELS * region;
+        let place = self.placed(rows.len(), labels.len(), region)?;
+        let source = place.record.line(Side::Source)?;
+        let schedule = place.record.line(Side::Schedule)?;
         let verdict = compare::<D>(
-            &rows[row..row + REGION_ROWS],
-            &labels[label..label + REGION_LABELS],
+            part_at(rows, place.rows, REGION_ROWS),
+            part_at(labels, place.labels, REGION_LABELS),
             &source,
             &schedule,
             terms,
         )?;
-        self.regions[region] = record.marked(verdict);
+        self.regions[region] = place.record.marked(verdict);
         Ok(verdict)
     }
 }

@@ -3,8 +3,7 @@ ghost use Rattle.std.specs.Prelude.{◌≡◌, []};
 ghost use Rattle.shelf.specs.Store.{store};
 ghost use Rattle.shelf.specs.Calls.{open_answer, opened, opening, settled, unopened};
 
-use super::super::parts::{blank_labels, blank_rows};
-use super::super::record::EMPTY;
+use super::super::record::Record;
 use super::super::refusal::{Number, Refusal};
 use super::Shelf;
 use region::{LabelRow, REGION_LABELS, REGION_ROWS, Row};
@@ -13,11 +12,9 @@ use region::{LabelRow, REGION_LABELS, REGION_ROWS, Row};
 fn fitting(rows: usize, labels: usize) -> Result<usize, Refusal>
     ensures { result ≡ opening rows labels }
 {
-    let n = rows / REGION_ROWS;
-    if n >= 1 && n <= 16 && rows == REGION_ROWS * n && labels == REGION_LABELS * n {
-        Ok(n)
-    } else {
-        Err(Refusal::of(Number::Sizes))
+    match rows / REGION_ROWS {
+        n @ 1..=16 if rows == REGION_ROWS * n && labels == REGION_LABELS * n => Ok(n),
+        _ => Err(Number::Sizes.into()),
     }
 }
 
@@ -28,7 +25,7 @@ impl Shelf {
     {
         Shelf {
             count: 0,
-            regions: [EMPTY; 16],
+            regions: [Record::default(); 16],
         }
     }
 
@@ -40,10 +37,10 @@ impl Shelf {
         let count = fitting(rows.len(), labels.len())?;
         *self = Shelf {
             count,
-            regions: [EMPTY; 16],
+            regions: [Record::default(); 16],
         };
-        blank_rows(rows);
-        blank_labels(labels);
+        rows.fill(Row::blank());
+        labels.fill(LabelRow::unused());
         Ok(count)
     }
 }

@@ -20,7 +20,7 @@ impl Shelf {
         ensures { kept_answer result ≡ reading (store self.now [] []) region }
     {
         if region >= self.count {
-            return Err(Refusal::of(Number::Region));
+            return Err(Number::Region.into());
         }
         Ok(self.regions[region])
     }

@@ -3,6 +3,7 @@ ghost use Rattle.std.specs.Prelude.{◌≡◌};
 ghost use Rattle.shelf.specs.Store.{store};
 ghost use Rattle.shelf.specs.Calls.{outcome_of, run_answer, state_of};
 
+use super::super::parts::part_at;
 use super::super::refusal::Refusal;
 use super::Shelf;
 use domain::Domain;
@@ -23,16 +24,9 @@ impl Shelf {
         ensures answer { let st = store self.now rows.now labels.now in result ≡ outcome_of (run_answer D.meaning st region side entry state.old) }
         ensures after { let st = store self.now rows.now labels.now in state.new ≡ state_of state.old (run_answer D.meaning st region side entry state.old) }
     {
-        let record = self.placed(rows.len(), labels.len(), region)?;
-        let shape = record.line(side)?;
-        let start = REGION_ROWS * region;
-        let outcome = run(
-            &rows[start..start + REGION_ROWS],
-            side,
-            &shape,
-            entry,
-            state,
-        )?;
-        Ok(outcome)
+        let place = self.placed(rows.len(), labels.len(), region)?;
+        let shape = place.record.line(side)?;
+        let mine = part_at(rows, place.rows, REGION_ROWS);
+        Ok(run(mine, side, &shape, entry, state)?)
     }
 }

@@ -7,7 +7,7 @@ use super::super::parts::write_at;
 use super::super::record::Record;
 use super::super::refusal::Refusal;
 use super::Shelf;
-use region::{LabelRow, MAIN_ROWS, REGION_LABELS, REGION_ROWS, Row};
+use region::{LabelRow, MAIN_ROWS, Row, SCHEDULE_ROWS};
 use region_text::read_source;
 
 impl Shelf {
@@ -22,16 +22,15 @@ impl Shelf {
         ensures answer { let st = store self.old rows.old labels.old in result ≡ granted (source_answer st region text.now) }
         ensures after { let st = store self.old rows.old labels.old in store self.new rows.new labels.new ≡ settled st (source_put st region) (source_answer st region text.now) }
     {
-        let _ = self.placed(rows.len(), labels.len(), region)?;
+        let place = self.placed(rows.len(), labels.len(), region)?;
         let draft = read_source(text)?;
         self.regions[region] = Record {
             source: Some(draft.shape),
-            schedule: None,
-            mark: None,
+            ..Record::default()
         };
-        write_at(rows, REGION_ROWS * region, &draft.rows);
-        write_at(rows, REGION_ROWS * region + MAIN_ROWS, &[Row::blank(); 288]);
-        write_at(labels, REGION_LABELS * region, &draft.labels);
+        write_at(rows, place.rows, &draft.rows);
+        write_at(rows, place.rows + MAIN_ROWS, &[Row::blank(); SCHEDULE_ROWS]);
+        write_at(labels, place.labels, &draft.labels);
         Ok(())
     }
 }

@@ -1,46 +1,26 @@
-use Rattle.std.proofs.Common.{◌≡◌, ◌+◌, ◌-◌, ◌*◌, length, take, drop, set, Err, refl, ap, ◌∙◌}
-use native.Mathlib.Nat.{add-sub_cancel_left}
+use Rattle.std.proofs.Common.{length, refl, ap, ◌∙◌}
+use Rattle.std.proofs.lemmas.List.{map-set}
 use Rattle.std.proofs.lemmas.Result.{err_from_is_err_and}
 use Rattle.region.specs.Kept.{kept}
-use Rattle.region_text.specs.Drafts.{laid_schedule}
-use Rattle.region_text.specs.Schedules.{read_schedule}
-use Rattle.region.specs.declared.side.Side.TheVariants.{Source}
-use Rattle.shelf.specs.Store.{kept_region, store, labels_of_region}
-use Rattle.shelf.specs.Calls.{bind, from_text, granted, line_of, scheduled, schedule_put, settled}
-use Rattle.shelf.proofs.Writes.{map-set}
-use Rattle.shelf.proofs.Granting.{found_is, same_store}
+use Rattle.shelf.specs.Calls.{scheduled}
+use Rattle.shelf.specs.Store.{store}
+use Rattle.shelf.proofs.Granting.{found_is}
 use Rattle.shelf.proofs.keeping.Shelf.put_schedule.Goals as goal
 
 pub returns-in_err-draft : goal.returns-in_err-draft
 returns-in_err-draft c =
-    let st = store c.args.self.now c.args.rows.now c.args.labels.now in
-    let r = c.args.region in
-    let t = c.args.text.now in
-    let p = err_from_is_err_and c.from_residual-in_err-draft.result c.from_residual-in_err-draft.ensures.1 in
-    let mine : take (9 * r + 9 - 9 * r) (drop (9 * r) st.labels) ≡ labels_of_region st r = simp add-sub_cancel_left in
-    let said = ap from_text c.in_err-draft.ensures
-    ∙ ap (λ ls. from_text (laid_schedule (read_schedule ls t))) mine
-    ∙ ap (λ x. bind x (λ _. from_text (laid_schedule (read_schedule (labels_of_region st r) t)))) c.in_ok-line.ensures
-    ∙ ap (λ x. bind x (λ k. bind (line_of Source k) (λ _. from_text (laid_schedule (read_schedule (labels_of_region st r) t))))) c.in_ok-record.ensures.value in
-    record { answer = p.1 ∙ ap Err p.2 ∙ ap granted said; after = ap (settled st (schedule_put st r)) said }
+    let p = c.in_ok-place.ensures in
+    let e = err_from_is_err_and c.from_residual-in_err-draft.result c.from_residual-in_err-draft.ensures.1 in
+    rw (e.1, e.2, ← p.value, ← c.in_ok-line.ensures, ← p.first_label, ← c.part_at.ensures, ← c.in_err-draft.ensures)
+    (record { answer = refl; after = refl })
 
 pub returns : goal.returns
 returns c =
+    let p = c.in_ok-place.ensures in
     let st = store c.args.self.now c.args.rows.now c.args.labels.now in
-    let r = c.args.region in
-    let t = c.args.text.now in
-    let d = c.in_ok-draft.draft in
-    let found = c.in_ok-record.ensures.value in
-    let mine : take (9 * r + 9 - 9 * r) (drop (9 * r) st.labels) ≡ labels_of_region st r = simp add-sub_cancel_left in
-    let said = ap from_text c.in_ok-draft.ensures
-    ∙ ap (λ ls. from_text (laid_schedule (read_schedule ls t))) mine
-    ∙ ap (λ x. bind x (λ _. from_text (laid_schedule (read_schedule (labels_of_region st r) t)))) c.in_ok-line.ensures
-    ∙ ap (λ x. bind x (λ k. bind (line_of Source k) (λ _. from_text (laid_schedule (read_schedule (labels_of_region st r) t))))) found in
-    record {
-      answer = ap granted said;
-      after = same_store st.count
-          (map-set kept_region c.args.self.now.regions r c.scheduled.result
-          ∙ ap (set st.regions r) (c.scheduled.ensures ∙ ap (λ k. scheduled k (kept d.shape)) (found_is st.count st.regions (length st.rows) (length st.labels) r _ found)))
-          c.write_at.ensures refl
-          ∙ ap (settled st (schedule_put st r)) said;
-    }
+    let mine = found_is st.count st.regions (length st.rows) (length st.labels) c.args.region _ p.value in
+    rw (← p.value, ← c.in_ok-line.ensures, ← p.first_label, ← c.part_at.ensures, ← c.in_ok-draft.ensures)
+    (record {
+      answer = refl;
+      after = rw (map-set, c.scheduled.ensures ∙ ap (λ k. scheduled k (kept c.in_ok-draft.draft.shape)) mine, c.write_at.ensures, p.first_row);
+    })
