@@ -1,10 +1,7 @@
 // cases: checks stored pairs of texts in every domain, and compares what the calls answer with stored answers.
 #![tactic(auto)]
 
-mod answers;
-mod bench;
 mod case;
-mod domains;
 mod lists;
 mod trying;
 
@@ -32,7 +29,7 @@ An answer is 'passed', 'failed ENTRY STOP REASON NUMBER' or 'refused CALL NUMBER
 
 // The known pairs and the cases of the lists.
 fn serve(rt: &HostRuntime, paths: &[String]) -> anyhow::Result<()> {
-    let mut tally = Tally::new();
+    let mut tally = Tally::default();
     try_known(rt, &mut tally)?;
     for path in paths {
         let cases = read_list(rt, path.as_str())?;
@@ -43,10 +40,7 @@ fn serve(rt: &HostRuntime, paths: &[String]) -> anyhow::Result<()> {
 }
 
 fn start(rt: &HostRuntime) -> anyhow::Result<()> {
-    let mut paths = Vec::new(rt.alloc());
-    for path in env::args(rt)?.skip(1) {
-        paths.push(path)?;
-    }
+    let paths: Vec<String> = env::args(rt)?.skip(1).collect(rt.alloc())?;
     match paths.as_slice() {
         [] => Err(anyhow!("which LIST? try --help")),
         [word] if word.as_str() == "--help" => {

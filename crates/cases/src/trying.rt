@@ -1,14 +1,13 @@
 // Tries cases, and says how they went.
-use super::answers::Answer;
-use super::bench::Bench;
 use super::case::{Case, Expected};
-use super::domains::DomainName;
 use anyhow::anyhow;
+use desk::{AnswerText, Declined, Desk, DomainName};
 use known_pairs::{KnownPair, count, known_pair};
 use std::fmt;
+use validator::Verdict;
 
 /// How many cases and answers there were, and how many answers differ from what was expected.
-#[derive(Clone, Copy)]
+#[derive(Clone, Copy, Default)]
 pub struct Tally {
     cases: usize,
     answers: usize,
@@ -16,14 +15,6 @@ pub struct Tally {
 }
 
 impl Tally {
-    pub(crate) fn new() -> Tally {
-        Tally {
-            cases: 0,
-            answers: 0,
-            differ: 0,
-        }
-    }
-
     fn add_case(&mut self) {
         self.cases = self.cases.saturating_add(1);
     }
@@ -47,11 +38,10 @@ impl Tally {
 
 impl fmt::Display for Tally {
     fn fmt<W: fmt::Write>(&self, f: &mut fmt::Formatter<W>) -> fmt::Result {
-        write!(
-            f,
-            "{} cases, {} answers, {} differ",
-            self.cases, self.answers, self.differ
-        )
+        let cases = self.cases;
+        let answers = self.answers;
+        let differ = self.differ;
+        write!(f, "{cases} cases, {answers} answers, {differ} differ")
     }
 }
 
@@ -64,6 +54,12 @@ struct Trial<'a> {
 }
 
 impl Trial<'_> {
+    // What the calls answer of the texts, in that domain: OPEN, and then SOURCE, SCHEDULE and CHECK.
+    fn answer(&self, desk: &mut Desk, domain: DomainName) -> Result<Verdict, Declined> {
+        let _ = desk.open()?;
+        desk.check(domain, 0, self.source, self.schedule)
+    }
+
     // What differs from the answers that are expected; nothing where none does.
     fn differences(
         &self,
@@ -71,15 +67,15 @@ impl Trial<'_> {
         tally: &mut Tally,
         expected: &[Expected],
     ) -> anyhow::Result<String> {
-        let mut bench = Bench::new();
+        let mut desk = Desk::new(rt.alloc(), 1)?;
         let mut told = String::new(rt.alloc());
         for e in expected {
-            let answer = bench.answer(e.domain, self.source, self.schedule);
+            let answer = AnswerText(self.answer(&mut desk, e.domain));
             let came = format!(in rt.alloc(); "{answer}")?;
             let same = came.as_str() == e.answer.as_str();
             tally.add_answer(same);
             if !same {
-                let domain = e.domain.name();
+                let domain = e.domain;
                 let wanted = e.answer.as_str();
                 let one = format!(in rt.alloc(); " {domain}: expected '{wanted}', came '{came}';")?;
                 told.push_str(one.as_str())?;
@@ -136,8 +132,7 @@ fn try_pair(
     pair: KnownPair,
 ) -> anyhow::Result<()> {
     let name = format!(in rt.alloc(); "known-{number}")?;
-    let verdict = Answer::Decided(pair.verdict);
-    let answer = format!(in rt.alloc(); "{verdict}")?;
+    let answer = AnswerText(Ok(pair.verdict)).to_string(rt.alloc())?;
     let domain = domain_of(&pair);
     let expected = vec![in rt.alloc(); Expected { domain, answer }]?;
     let trial = Trial {
@@ -150,10 +145,8 @@ fn try_pair(
 
 /// Tries the known pairs.
 pub(crate) fn try_known(rt: &HostRuntime, tally: &mut Tally) -> anyhow::Result<()> {
-    for number in 0..count() {
-        if let Some(pair) = known_pair(number) {
-            try_pair(rt, tally, number, pair)?;
-        }
+    for (number, pair) in (0..count()).filter_map(known_pair).enumerate() {
+        try_pair(rt, tally, number, pair)?;
     }
     Ok(())
 }
