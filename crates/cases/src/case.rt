@@ -50,10 +50,7 @@ impl Text {
             Text::Written(bytes) => Ok(bytes.clone()?),
             Text::File(path) => {
                 let path = path.as_str();
-                match fs::read(rt, path) {
-                    Ok(bytes) => Ok(bytes),
-                    Err(e) => Err(anyhow!(format!(in rt.alloc(); "{path}: cannot be read: {e}")?)),
-                }
+                fs::read(rt, path).map_err(|e| anyhow!("{path}: cannot be read: {e}"))
             }
         }
     }

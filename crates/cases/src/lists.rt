@@ -69,17 +69,20 @@ impl Draft {
         )
     }
 
+    fn expect_in(&mut self, heap: Global, domain: DomainName, answer: &str) -> Result<(), Flaw> {
+        let answer = String::from_str(heap, answer)?;
+        self.expected.push(Expected { domain, answer })?;
+        Ok(())
+    }
+
     // An answer, in the domain of that name or in all.
     fn expect(&mut self, heap: Global, name: &str, answer: &str) -> Result<(), Flaw> {
-        let before = self.expected.len();
-        for domain in DomainName::ALL {
-            if name == "all" || name == domain.name() {
-                let answer = String::from_str(heap, answer)?;
-                self.expected.push(Expected { domain, answer })?;
-            }
+        if name != "all" {
+            let domain = name.parse().map_err(|_| Flaw::UnknownWord)?;
+            return self.expect_in(heap, domain, answer);
         }
-        if self.expected.len() == before {
-            return Err(Flaw::UnknownWord);
+        for domain in DomainName::ALL {
+            self.expect_in(heap, domain, answer)?;
         }
         Ok(())
     }
@@ -161,12 +164,8 @@ fn read_text(heap: Global, text: &str) -> Result<Vec<Case>, (usize, Flaw)> {
 
 /// The cases of a list.
 pub(crate) fn read_list(rt: &HostRuntime, path: &str) -> anyhow::Result<Vec<Case>> {
-    let text = match fs::read_to_string(rt, path) {
-        Ok(text) => text,
-        Err(e) => return Err(anyhow!(format!(in rt.alloc(); "{path}: cannot be read: {e}")?)),
-    };
-    match read_text(rt.alloc(), text.as_str()) {
-        Ok(cases) => Ok(cases),
-        Err((number, flaw)) => Err(anyhow!(format!(in rt.alloc(); "{path}:{number}: {flaw}")?)),
-    }
+    let text = fs::read_to_string(rt, path).map_err(|e| anyhow!("{path}: cannot be read: {e}"))?;
+    read_text(rt.alloc(), text.as_str()).map_err(|(number, flaw)| anyhow!(
+        "{path}:{number}: {flaw}"
+    ))
 }

@@ -8,7 +8,7 @@ mod trying;
 use anyhow::anyhow;
 use lists::read_list;
 use std::env;
-use trying::{Tally, try_all, try_known};
+use trying::Bench;
 
 const USAGE: &str = "usage: cases LIST [LIST ..]
 
@@ -29,12 +29,13 @@ An answer is 'passed', 'failed ENTRY STOP REASON NUMBER' or 'refused CALL NUMBER
 
 // The known pairs and the cases of the lists.
 fn serve(rt: &HostRuntime, paths: &[String]) -> anyhow::Result<()> {
-    let mut tally = Tally::default();
-    try_known(rt, &mut tally)?;
+    let mut bench = Bench::new(rt.alloc())?;
+    bench.try_known(rt)?;
     for path in paths {
         let cases = read_list(rt, path.as_str())?;
-        try_all(rt, &mut tally, cases.as_slice())?;
+        bench.try_all(rt, cases.as_slice())?;
     }
+    let tally = bench.tally();
     println!(rt; "{tally}")?;
     tally.verdict()
 }
@@ -51,6 +52,7 @@ fn start(rt: &HostRuntime) -> anyhow::Result<()> {
     }
 }
 
+// An `anyhow::Error` prints as its message, which the line `Error: ..` behind a failed `main` repeats.
 fn main(rt: HostRuntime) -> anyhow::Result<()> {
     let ended = start(&rt);
     if let Err(e) = &ended {

@@ -1,6 +1,5 @@
 -- What the calls on a desk answer, and the store that they leave, by the definitions of the calls on a shelf.
 use Rattle.std.specs.Prelude.{ℕ, ◌*◌, List, replicate, Ok, Err, Result}
-use Rattle.domain.specs.Meaning.{Meaning}
 use Rattle.domain.specs.Tagged.{tagged}
 use Rattle.domain.specs.Trapping.{trapping}
 use Rattle.domain.specs.Wrapping.{wrapping}

@@ -38,22 +38,37 @@ pub enum Misuse<'a> {
     Memory(#[from(alloc)] AllocError),
 }
 
-/// What the user asks for.
+/// A check of pairs in a domain.
 #[derive(Drop)]
 pub struct Request<'a> {
-    pub help: bool,
     pub domain: DomainName,
     pub origins: Vec<Origin<'a>>,
+}
+
+/// What the user asks for.
+#[derive(Drop)]
+pub enum Asked<'a> {
+    Help,
+    Check(Request<'a>),
+}
+
+// The arguments that were read.
+#[derive(Drop)]
+struct Arguments<'a> {
+    help: bool,
+    request: Request<'a>,
     next: Next<'a>,
 }
 
-impl<'a> Request<'a> {
+impl<'a> Arguments<'a> {
     // Nothing asked for yet: the wrapping domain and no pairs.
-    fn new(heap: Global) -> Request<'a> {
-        Request {
+    fn new(heap: Global) -> Arguments<'a> {
+        Arguments {
             help: false,
-            domain: DomainName::Wrapping,
-            origins: Vec::new(heap),
+            request: Request {
+                domain: DomainName::Wrapping,
+                origins: Vec::new(heap),
+            },
             next: Next::Any,
         }
     }
@@ -61,7 +76,7 @@ impl<'a> Request<'a> {
     // One place more that pairs come from.
     fn add(&mut self, origin: Origin<'a>) -> Result<(), Misuse<'a>> {
         self.next = Next::Any;
-        self.origins.push(origin)?;
+        self.request.origins.push(origin)?;
         Ok(())
     }
 
@@ -69,7 +84,7 @@ impl<'a> Request<'a> {
         let Ok(domain) = word.parse() else {
             return Err(Misuse::UnknownDomain(word));
         };
-        self.domain = domain;
+        self.request.domain = domain;
         self.next = Next::Any;
         Ok(())
     }
@@ -104,24 +119,24 @@ impl<'a> Request<'a> {
         }
     }
 
-    // Whether the request is whole.
-    fn whole(&self) -> Result<(), Misuse<'a>> {
+    // What they ask for, where they are whole.
+    fn asked(self) -> Result<Asked<'a>, Misuse<'a>> {
         match self.next {
             Next::Domain => Err(Misuse::NoDomain),
             Next::List => Err(Misuse::NoList),
             Next::ScheduleOf(source) => Err(Misuse::NoSchedule(source)),
-            Next::Any if self.help || !self.origins.is_empty() => Ok(()),
-            Next::Any => Err(Misuse::NoPairs),
+            Next::Any if self.help => Ok(Asked::Help),
+            Next::Any if self.request.origins.is_empty() => Err(Misuse::NoPairs),
+            Next::Any => Ok(Asked::Check(self.request)),
         }
     }
 }
 
 /// What the arguments after the program's name ask for.
-pub(crate) fn read_arguments(heap: Global, words: &[String]) -> Result<Request<'_>, Misuse<'_>> {
-    let mut request = Request::new(heap);
+pub(crate) fn read_arguments(heap: Global, words: &[String]) -> Result<Asked<'_>, Misuse<'_>> {
+    let mut arguments = Arguments::new(heap);
     for word in words.iter().skip(1) {
-        request.take(word.as_str())?;
+        arguments.take(word.as_str())?;
     }
-    request.whole()?;
-    Ok(request)
+    arguments.asked()
 }

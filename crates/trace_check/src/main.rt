@@ -9,7 +9,7 @@ mod spots;
 mod tests;
 mod texts;
 
-use arguments::{Request, read_arguments};
+use arguments::{Asked, Request, read_arguments};
 use desk::{Failed, Trouble};
 use pairs::gather;
 use release::{Totals, check_all};
@@ -51,11 +51,11 @@ fn serve(rt: &HostRuntime, request: &Request) -> Result<Totals, Trouble> {
 fn start(rt: &HostRuntime) -> Result<Totals, Trouble> {
     let words: Vec<String> = env::args(rt)?.collect(rt.alloc())?;
     match read_arguments(rt.alloc(), words.as_slice()) {
-        Ok(request) if request.help => {
+        Ok(Asked::Help) => {
             println!(rt; "{USAGE}")?;
             Ok(Totals::default())
         }
-        Ok(request) => serve(rt, &request),
+        Ok(Asked::Check(request)) => serve(rt, &request),
         Err(misuse) => Err(Trouble::Said(format!(in rt.alloc(); "{misuse}")?)),
     }
 }

@@ -9,7 +9,7 @@ use std::alloc::Global;
 use std::{fs, io};
 
 /// A shelf of one region, with its rows and labels. It is no `Desk`, which has room for a check and does not run.
-#[derive(Clone, Copy)]
+#[derive(Drop)]
 pub struct Held {
     shelf: Shelf,
     rows: [Row; REGION_ROWS],

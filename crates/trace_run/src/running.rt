@@ -7,14 +7,17 @@ use domain::{Trapping, Wrapping};
 use region::{STATE_WORDS, Side};
 use std::{fmt, fs};
 
+// How many registers there are, and how many cells each bank has.
+const CELLS: usize = 16;
+
 // The place of a word in a state: a register, or a cell of a bank.
 #[derive(Clone, Copy)]
 struct Place(usize);
 
 impl fmt::Display for Place {
     fn fmt<W: fmt::Write>(&self, f: &mut fmt::Formatter<W>) -> fmt::Result {
-        let cell = self.0 % 16;
-        match self.0 / 16 {
+        let cell = self.0 % CELLS;
+        match self.0 / CELLS {
             0 => write!(f, "register {cell}"),
             part => {
                 let bank = part - 1;
