@@ -1,6 +1,6 @@
 // Cases as a list gives them.
-use super::domains::DomainName;
 use anyhow::anyhow;
+use desk::DomainName;
 use std::alloc::{AllocError, Global};
 use std::fs;
 
@@ -41,11 +41,7 @@ fn byte_of(b: u8) -> u8 {
 impl Text {
     /// A text that is written in a list.
     pub(crate) fn written(heap: Global, line: &str) -> Result<Text, AllocError> {
-        let mut bytes = Vec::new(heap);
-        for b in line.bytes() {
-            bytes.push(byte_of(b))?;
-        }
-        Ok(Text::Written(bytes))
+        Ok(Text::Written(line.bytes().map(byte_of).collect(heap)?))
     }
 
     /// The bytes of the text.
@@ -54,10 +50,7 @@ impl Text {
             Text::Written(bytes) => Ok(bytes.clone()?),
             Text::File(path) => {
                 let path = path.as_str();
-                match fs::read(rt, path) {
-                    Ok(bytes) => Ok(bytes),
-                    Err(e) => Err(anyhow!(format!(in rt.alloc(); "{path}: cannot be read: {e}")?)),
-                }
+                fs::read(rt, path).map_err(|e| anyhow!("{path}: cannot be read: {e}"))
             }
         }
     }

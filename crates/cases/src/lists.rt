@@ -1,49 +1,30 @@
 // Lists of cases.
 use super::case::{Case, Expected, Text};
-use super::domains::EACH;
 use anyhow::anyhow;
-use std::alloc::{AllocError, AllocFailed, Global};
-use std::{fmt, fs};
+use desk::DomainName;
+use std::alloc::{AllocError, Global};
+use std::fs;
+use thiserror::Error;
 
 // What is wrong with a line of a list.
-#[derive(Clone, Copy)]
+#[derive(Debug, Drop, Error)]
 enum Flaw {
+    #[error("a line begins with case, source, schedule, files, all, w, t, kw, kt or kkw")]
     UnknownWord,
+    #[error("no case was begun above this line")]
     NoCase,
+    #[error("the case has no name")]
     NoName,
+    #[error("the case has this text already")]
     TextTwice,
+    #[error("the case that ends here has no source")]
     NoSource,
+    #[error("the case that ends here has no schedule")]
     NoSchedule,
+    #[error("the case that ends here has no answer")]
     NoAnswer,
-    Memory,
-}
-
-impl fmt::Display for Flaw {
-    fn fmt<W: fmt::Write>(&self, f: &mut fmt::Formatter<W>) -> fmt::Result {
-        f.write_str(match self {
-            Flaw::UnknownWord =>
-                "a line begins with case, source, schedule, files, all, w, t, kw, kt or kkw",
-            Flaw::NoCase => "no case was begun above this line",
-            Flaw::NoName => "the case has no name",
-            Flaw::TextTwice => "the case has this text already",
-            Flaw::NoSource => "the case that ends here has no source",
-            Flaw::NoSchedule => "the case that ends here has no schedule",
-            Flaw::NoAnswer => "the case that ends here has no answer",
-            Flaw::Memory => "out of memory",
-        })
-    }
-}
-
-impl From<AllocError> for Flaw {
-    fn from(_e: AllocError) -> Flaw {
-        Flaw::Memory
-    }
-}
-
-impl<T: Drop> From<AllocFailed<T>> for Flaw {
-    fn from(_e: AllocFailed<T>) -> Flaw {
-        Flaw::Memory
-    }
+    #[error("out of memory")]
+    Memory(#[from(alloc)] AllocError),
 }
 
 // What has been read of a case.
@@ -88,17 +69,20 @@ impl Draft {
         )
     }
 
+    fn expect_in(&mut self, heap: Global, domain: DomainName, answer: &str) -> Result<(), Flaw> {
+        let answer = String::from_str(heap, answer)?;
+        self.expected.push(Expected { domain, answer })?;
+        Ok(())
+    }
+
     // An answer, in the domain of that name or in all.
     fn expect(&mut self, heap: Global, name: &str, answer: &str) -> Result<(), Flaw> {
-        let before = self.expected.len();
-        for domain in EACH {
-            if name == "all" || name == domain.name() {
-                let answer = String::from_str(heap, answer)?;
-                self.expected.push(Expected { domain, answer })?;
-            }
+        if name != "all" {
+            let domain = name.parse().map_err(|_| Flaw::UnknownWord)?;
+            return self.expect_in(heap, domain, answer);
         }
-        if self.expected.len() == before {
-            return Err(Flaw::UnknownWord);
+        for domain in DomainName::ALL {
+            self.expect_in(heap, domain, answer)?;
         }
         Ok(())
     }
@@ -115,26 +99,16 @@ impl Draft {
 
     // The case, where it is whole.
     fn finish(self) -> Result<Case, Flaw> {
-        let Draft {
-            name,
-            source,
-            schedule,
-            expected,
-        } = self;
-        let Some(source) = source else {
-            return Err(Flaw::NoSource);
-        };
-        let Some(schedule) = schedule else {
-            return Err(Flaw::NoSchedule);
-        };
-        if expected.is_empty() {
+        let source = self.source.ok_or(Flaw::NoSource)?;
+        let schedule = self.schedule.ok_or(Flaw::NoSchedule)?;
+        if self.expected.is_empty() {
             return Err(Flaw::NoAnswer);
         }
         Ok(Case {
-            name,
+            name: self.name,
             source,
             schedule,
-            expected,
+            expected: self.expected,
         })
     }
 }
@@ -179,27 +153,19 @@ fn read_text(heap: Global, text: &str) -> Result<Vec<Case>, (usize, Flaw)> {
         cases: Vec::new(heap),
         draft: None,
     };
-    let mut number: usize = 0;
-    for line in text.lines() {
-        number = number.saturating_add(1);
-        if let Err(flaw) = reading.take(heap, line) {
-            return Err((number, flaw));
-        }
+    let mut last = 0;
+    for (number, line) in (1usize..).zip(text.lines()) {
+        reading.take(heap, line).map_err(|flaw| (number, flaw))?;
+        last = number;
     }
-    match reading.end_case() {
-        Ok(()) => Ok(reading.cases),
-        Err(flaw) => Err((number, flaw)),
-    }
+    reading.end_case().map_err(|flaw| (last, flaw))?;
+    Ok(reading.cases)
 }
 
 /// The cases of a list.
 pub(crate) fn read_list(rt: &HostRuntime, path: &str) -> anyhow::Result<Vec<Case>> {
-    let text = match fs::read_to_string(rt, path) {
-        Ok(text) => text,
-        Err(e) => return Err(anyhow!(format!(in rt.alloc(); "{path}: cannot be read: {e}")?)),
-    };
-    match read_text(rt.alloc(), text.as_str()) {
-        Ok(cases) => Ok(cases),
-        Err((number, flaw)) => Err(anyhow!(format!(in rt.alloc(); "{path}:{number}: {flaw}")?)),
-    }
+    let text = fs::read_to_string(rt, path).map_err(|e| anyhow!("{path}: cannot be read: {e}"))?;
+    read_text(rt.alloc(), text.as_str()).map_err(|(number, flaw)| anyhow!(
+        "{path}:{number}: {flaw}"
+    ))
 }

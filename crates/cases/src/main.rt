@@ -1,17 +1,14 @@
 // cases: checks stored pairs of texts in every domain, and compares what the calls answer with stored answers.
 #![tactic(auto)]
 
-mod answers;
-mod bench;
 mod case;
-mod domains;
 mod lists;
 mod trying;
 
 use anyhow::anyhow;
 use lists::read_list;
 use std::env;
-use trying::{Tally, try_all, try_known};
+use trying::Bench;
 
 const USAGE: &str = "usage: cases LIST [LIST ..]
 
@@ -32,21 +29,19 @@ An answer is 'passed', 'failed ENTRY STOP REASON NUMBER' or 'refused CALL NUMBER
 
 // The known pairs and the cases of the lists.
 fn serve(rt: &HostRuntime, paths: &[String]) -> anyhow::Result<()> {
-    let mut tally = Tally::new();
-    try_known(rt, &mut tally)?;
+    let mut bench = Bench::new(rt.alloc())?;
+    bench.try_known(rt)?;
     for path in paths {
         let cases = read_list(rt, path.as_str())?;
-        try_all(rt, &mut tally, cases.as_slice())?;
+        bench.try_all(rt, cases.as_slice())?;
     }
+    let tally = bench.tally();
     println!(rt; "{tally}")?;
     tally.verdict()
 }
 
 fn start(rt: &HostRuntime) -> anyhow::Result<()> {
-    let mut paths = Vec::new(rt.alloc());
-    for path in env::args(rt)?.skip(1) {
-        paths.push(path)?;
-    }
+    let paths: Vec<String> = env::args(rt)?.skip(1).collect(rt.alloc())?;
     match paths.as_slice() {
         [] => Err(anyhow!("which LIST? try --help")),
         [word] if word.as_str() == "--help" => {
@@ -57,6 +52,7 @@ fn start(rt: &HostRuntime) -> anyhow::Result<()> {
     }
 }
 
+// An `anyhow::Error` prints as its message, which the line `Error: ..` behind a failed `main` repeats.
 fn main(rt: HostRuntime) -> anyhow::Result<()> {
     let ended = start(&rt);
     if let Err(e) = &ended {

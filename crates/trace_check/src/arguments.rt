@@ -1,155 +1,142 @@
 // The words of the command line.
-use std::alloc::Global;
+use desk::DomainName;
+use std::alloc::{AllocError, Global};
+use thiserror::Error;
 
-/// The domains that a check can be made in.
+/// Where pairs come from: the paths of a source and of its schedule, or the path of a list.
 #[derive(Clone, Copy)]
-pub enum Kind {
-    Wrapping,
-    Trapping,
-    TaggedWrapping,
-    TaggedTrapping,
-    TwiceTaggedWrapping,
-}
-
-/// Where pairs come from, by argument numbers: the paths of a source and of its schedule, or the path of a list.
-#[derive(Clone, Copy)]
-pub enum Origin {
-    Pair { source: usize, schedule: usize },
-    List(usize),
+pub enum Origin<'a> {
+    Pair { source: &'a str, schedule: &'a str },
+    List(&'a str),
 }
 
 // What the next argument is to be.
 #[derive(Clone, Copy)]
-enum Next {
+enum Next<'a> {
     Any,
     Domain,
     List,
-    ScheduleOf(usize),
+    ScheduleOf(&'a str),
 }
 
-/// What is wrong with the command line, and at which argument.
-#[derive(Clone, Copy)]
-pub enum Misuse {
-    UnknownOption(usize),
-    UnknownDomain(usize),
+/// What is wrong with the command line.
+#[derive(Debug, Drop, Error)]
+pub enum Misuse<'a> {
+    #[error("there is no option '{0}'; try --help")]
+    UnknownOption(&'a str),
+    #[error("there is no domain '{0}'; the domains are w, t, kw, kt and kkw")]
+    UnknownDomain(&'a str),
+    #[error("--domain wants w, t, kw, kt or kkw after it")]
     NoDomain,
+    #[error("--list wants a file after it")]
     NoList,
-    NoSchedule(usize),
+    #[error("the source '{0}' wants a schedule after it; try --help")]
+    NoSchedule(&'a str),
+    #[error("which SOURCE and SCHEDULE? try --help")]
     NoPairs,
-    Memory,
+    #[error("out of memory")]
+    Memory(#[from(alloc)] AllocError),
+}
+
+/// A check of pairs in a domain.
+#[derive(Drop)]
+pub struct Request<'a> {
+    pub domain: DomainName,
+    pub origins: Vec<Origin<'a>>,
 }
 
 /// What the user asks for.
 #[derive(Drop)]
-pub struct Request {
-    pub help: bool,
-    pub kind: Kind,
-    pub origins: Vec<Origin>,
-    next: Next,
+pub enum Asked<'a> {
+    Help,
+    Check(Request<'a>),
 }
 
-fn kind_of(word: &str) -> Option<Kind> {
-    match word {
-        "w" => Some(Kind::Wrapping),
-        "t" => Some(Kind::Trapping),
-        "kw" => Some(Kind::TaggedWrapping),
-        "kt" => Some(Kind::TaggedTrapping),
-        "kkw" => Some(Kind::TwiceTaggedWrapping),
-        _ => None,
-    }
+// The arguments that were read.
+#[derive(Drop)]
+struct Arguments<'a> {
+    help: bool,
+    request: Request<'a>,
+    next: Next<'a>,
 }
 
-impl Request {
-    /// Nothing asked for yet: the wrapping domain and no pairs.
-    pub(crate) fn new(heap: Global) -> Request {
-        Request {
+impl<'a> Arguments<'a> {
+    // Nothing asked for yet: the wrapping domain and no pairs.
+    fn new(heap: Global) -> Arguments<'a> {
+        Arguments {
             help: false,
-            kind: Kind::Wrapping,
-            origins: Vec::new(heap),
+            request: Request {
+                domain: DomainName::Wrapping,
+                origins: Vec::new(heap),
+            },
             next: Next::Any,
         }
     }
 
     // One place more that pairs come from.
-    fn add(&mut self, origin: Origin) -> Result<(), Misuse> {
+    fn add(&mut self, origin: Origin<'a>) -> Result<(), Misuse<'a>> {
         self.next = Next::Any;
-        match self.origins.push(origin) {
-            Ok(()) => Ok(()),
-            Err(_) => Err(Misuse::Memory),
-        }
+        self.request.origins.push(origin)?;
+        Ok(())
     }
 
-    fn set_kind(&mut self, number: usize, word: &str) -> Result<(), Misuse> {
-        let Some(kind) = kind_of(word) else {
-            return Err(Misuse::UnknownDomain(number));
+    fn set_domain(&mut self, word: &'a str) -> Result<(), Misuse<'a>> {
+        let Ok(domain) = word.parse() else {
+            return Err(Misuse::UnknownDomain(word));
         };
-        self.kind = kind;
+        self.request.domain = domain;
         self.next = Next::Any;
         Ok(())
     }
 
     // An option, or the path of a source.
-    fn begin(&mut self, number: usize, word: &str) -> Result<(), Misuse> {
+    fn begin(&mut self, word: &'a str) -> Result<(), Misuse<'a>> {
         match word {
             "--help" | "-h" => self.help = true,
             "--domain" => self.next = Next::Domain,
             "--list" => self.next = Next::List,
-            _ => {
-                if word.starts_with('-') {
-                    return Err(Misuse::UnknownOption(number));
-                }
-                self.next = Next::ScheduleOf(number);
-            }
+            _ if word.starts_with('-') => return Err(Misuse::UnknownOption(word)),
+            _ => self.next = Next::ScheduleOf(word),
         }
         Ok(())
     }
 
     // The path of a schedule.
-    fn pair(&mut self, source: usize, number: usize, word: &str) -> Result<(), Misuse> {
-        if word.starts_with('-') {
+    fn pair(&mut self, source: &'a str, schedule: &'a str) -> Result<(), Misuse<'a>> {
+        if schedule.starts_with('-') {
             return Err(Misuse::NoSchedule(source));
         }
-        self.add(Origin::Pair {
-            source,
-            schedule: number,
-        })
+        self.add(Origin::Pair { source, schedule })
     }
 
-    /// One argument more.
-    pub(crate) fn take(&mut self, number: usize, word: &str) -> Result<(), Misuse> {
+    // One argument more.
+    fn take(&mut self, word: &'a str) -> Result<(), Misuse<'a>> {
         match self.next {
-            Next::Any => self.begin(number, word),
-            Next::Domain => self.set_kind(number, word),
-            Next::List => self.add(Origin::List(number)),
-            Next::ScheduleOf(source) => self.pair(source, number, word),
+            Next::Any => self.begin(word),
+            Next::Domain => self.set_domain(word),
+            Next::List => self.add(Origin::List(word)),
+            Next::ScheduleOf(source) => self.pair(source, word),
         }
     }
 
-    /// Whether the request is whole.
-    pub(crate) fn whole(&self) -> Result<(), Misuse> {
+    // What they ask for, where they are whole.
+    fn asked(self) -> Result<Asked<'a>, Misuse<'a>> {
         match self.next {
             Next::Domain => Err(Misuse::NoDomain),
             Next::List => Err(Misuse::NoList),
             Next::ScheduleOf(source) => Err(Misuse::NoSchedule(source)),
-            Next::Any => {
-                if self.help || !self.origins.is_empty() {
-                    Ok(())
-                } else {
-                    Err(Misuse::NoPairs)
-                }
-            }
+            Next::Any if self.help => Ok(Asked::Help),
+            Next::Any if self.request.origins.is_empty() => Err(Misuse::NoPairs),
+            Next::Any => Ok(Asked::Check(self.request)),
         }
     }
 }
 
 /// What the arguments after the program's name ask for.
-pub(crate) fn read_arguments(heap: Global, words: &[String]) -> Result<Request, Misuse> {
-    let mut request = Request::new(heap);
-    for (number, word) in words.iter().enumerate() {
-        if number > 0 {
-            request.take(number, word.as_str())?;
-        }
+pub(crate) fn read_arguments(heap: Global, words: &[String]) -> Result<Asked<'_>, Misuse<'_>> {
+    let mut arguments = Arguments::new(heap);
+    for word in words.iter().skip(1) {
+        arguments.take(word.as_str())?;
     }
-    request.whole()?;
-    Ok(request)
+    arguments.asked()
 }

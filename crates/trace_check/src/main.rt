@@ -2,21 +2,18 @@
 #![tactic(auto)]
 
 mod arguments;
-mod desk;
 mod pairs;
 mod release;
 mod spots;
-mod telling;
 #[cfg(test)]
 mod tests;
-mod trouble;
+mod texts;
 
-use arguments::{Misuse, Request, read_arguments};
+use arguments::{Asked, Request, read_arguments};
+use desk::{Failed, Trouble};
 use pairs::gather;
-use release::check_all;
-use std::alloc::{AllocError, Global};
+use release::{Totals, check_all};
 use std::env;
-use trouble::{Failed, Trouble};
 
 const USAGE: &str =
     "usage: trace_check [--domain w|t|kw|kt|kkw] SOURCE SCHEDULE [SOURCE SCHEDULE ..]
@@ -42,63 +39,34 @@ The status is 0 where all pairs passed, and else 1.
   --list FILE    take pairs from FILE, two paths a line with a space or a tab between them
   --help         print this text";
 
-fn misuse_text(heap: Global, misuse: Misuse, words: &[String]) -> Result<String, AllocError> {
-    match misuse {
-        Misuse::UnknownOption(at) if at < words.len() => {
-            let word = words[at].as_str();
-            format!(in heap; "there is no option '{word}'; try --help")
-        }
-        Misuse::UnknownDomain(at) if at < words.len() => {
-            let word = words[at].as_str();
-            format!(in heap; "there is no domain '{word}'; the domains are w, t, kw, kt and kkw")
-        }
-        Misuse::NoSchedule(at) if at < words.len() => {
-            let word = words[at].as_str();
-            format!(in heap; "the source '{word}' wants a schedule after it; try --help")
-        }
-        Misuse::NoDomain => format!(in heap; "--domain wants w, t, kw, kt or kkw after it"),
-        Misuse::NoList => format!(in heap; "--list wants a file after it"),
-        Misuse::Memory => format!(in heap; "out of memory"),
-        _ => format!(in heap; "which SOURCE and SCHEDULE? try --help"),
-    }
-}
-
-fn serve(rt: &HostRuntime, request: &Request, words: &[String]) -> Result<(), Trouble> {
-    let pairs = gather(rt, request.origins.as_slice(), words)?;
+fn serve(rt: &HostRuntime, request: &Request) -> Result<Totals, Trouble> {
+    let pairs = gather(rt, request.origins.as_slice())?;
     if pairs.is_empty() {
         return Err(Trouble::Said(format!(in rt.alloc(); "the list has no pairs")?));
     }
-    let totals = check_all(rt, request.kind, pairs.as_slice())?;
-    if totals.all_passed() {
-        Ok(())
-    } else {
-        Err(Trouble::NotAll)
-    }
+    check_all(rt, request.domain, pairs.as_slice())
 }
 
-fn start(rt: &HostRuntime) -> Result<(), Trouble> {
-    let mut words = Vec::new(rt.alloc());
-    for word in env::args(rt)? {
-        words.push(word)?;
-    }
+// How many pairs came to each end; none did where help was asked for.
+fn start(rt: &HostRuntime) -> Result<Totals, Trouble> {
+    let words: Vec<String> = env::args(rt)?.collect(rt.alloc())?;
     match read_arguments(rt.alloc(), words.as_slice()) {
-        Ok(request) if request.help => {
+        Ok(Asked::Help) => {
             println!(rt; "{USAGE}")?;
-            Ok(())
+            Ok(Totals::default())
         }
-        Ok(request) => serve(rt, &request, words.as_slice()),
-        Err(misuse) => Err(Trouble::Said(misuse_text(rt.alloc(), misuse, words.as_slice())?)),
+        Ok(Asked::Check(request)) => serve(rt, &request),
+        Err(misuse) => Err(Trouble::Said(format!(in rt.alloc(); "{misuse}")?)),
     }
 }
 
 fn main(rt: HostRuntime) -> Result<(), Failed> {
-    let told = match start(&rt) {
-        Ok(()) => return Ok(()),
-        Err(Trouble::Said(text)) => eprintln!(rt; "trace_check: {text}"),
-        Err(Trouble::Memory) => eprintln!(rt; "trace_check: out of memory"),
-        Err(Trouble::Output(e)) => eprintln!(rt; "trace_check: {e}"),
-        Err(Trouble::NotAll) => Ok(()),
-    };
-    let _ = told;
-    Err(Failed)
+    match start(&rt) {
+        Ok(totals) if totals.all_passed() => Ok(()),
+        Ok(_) => Err(Failed),
+        Err(trouble) => {
+            let _ = eprintln!(rt; "trace_check: {trouble}");
+            Err(Failed)
+        }
+    }
 }

@@ -1,6 +1,6 @@
 // The pairs that are to be checked.
 use super::arguments::Origin;
-use super::trouble::Trouble;
+use desk::Trouble;
 use std::alloc::Global;
 use std::fs;
 
@@ -11,73 +11,44 @@ pub struct Pair {
     pub schedule: String,
 }
 
-fn add(heap: Global, pairs: &mut Vec<Pair>, source: &str, schedule: &str) -> Result<(), Trouble> {
-    let source = String::from_str(heap, source)?;
-    let schedule = String::from_str(heap, schedule)?;
-    pairs.push(Pair { source, schedule })?;
-    Ok(())
-}
-
-// The two paths of a line; none on a blank line.
-fn add_line(
-    heap: Global,
-    pairs: &mut Vec<Pair>,
-    path: &str,
-    number: usize,
-    line: &str,
-) -> Result<(), Trouble> {
-    let mut words = line.split_ascii_whitespace();
-    let Some(source) = words.next() else {
-        return Ok(());
-    };
-    if let Some(schedule) = words.next() {
-        if words.next().is_none() {
-            return add(heap, pairs, source, schedule);
-        }
+impl Pair {
+    fn new(heap: Global, source: &str, schedule: &str) -> Result<Pair, Trouble> {
+        Ok(Pair {
+            source: String::from_str(heap, source)?,
+            schedule: String::from_str(heap, schedule)?,
+        })
     }
-    Err(Trouble::Said(format!(in heap;
-        "{path}:{number}: a line of a list has two paths, that of a source and that of its schedule"
-    )?))
 }
 
-// The pairs of a list.
+// The pairs of a list; blank lines have none.
 fn add_list(rt: &HostRuntime, pairs: &mut Vec<Pair>, path: &str) -> Result<(), Trouble> {
+    let heap = rt.alloc();
     let text = match fs::read_to_string(rt, path) {
         Ok(text) => text,
-        Err(e) => {
-            return Err(Trouble::Said(format!(in rt.alloc(); "{path}: cannot be read: {e}")?));
-        }
+        Err(e) => return Err(Trouble::Said(format!(in heap; "{path}: cannot be read: {e}")?)),
     };
-    let mut number: usize = 0;
-    for line in text.as_str().lines() {
-        number = number.saturating_add(1);
-        add_line(rt.alloc(), pairs, path, number, line)?;
+    for (number, line) in (1usize..).zip(text.as_str().lines()) {
+        let mut words = line.split_ascii_whitespace();
+        match (words.next(), words.next(), words.next()) {
+            (None, _, _) => {}
+            (Some(source), Some(schedule), None) => pairs.push(Pair::new(heap, source, schedule)?)?,
+            _ => return Err(Trouble::Said(format!(in heap;
+                "{path}:{number}: a line of a list has two paths, that of a source and that of its schedule"
+            )?)),
+        }
     }
     Ok(())
-}
-
-fn word(words: &[String], at: usize) -> &str {
-    if at < words.len() {
-        words[at].as_str()
-    } else {
-        ""
-    }
 }
 
 /// The pairs, in the order of the command line.
-pub(crate) fn gather(
-    rt: &HostRuntime,
-    origins: &[Origin],
-    words: &[String],
-) -> Result<Vec<Pair>, Trouble> {
-    let heap = rt.alloc();
-    let mut pairs = Vec::new(heap);
+pub(crate) fn gather(rt: &HostRuntime, origins: &[Origin]) -> Result<Vec<Pair>, Trouble> {
+    let mut pairs = Vec::new(rt.alloc());
     for origin in origins {
         match *origin {
             Origin::Pair { source, schedule } => {
-                add(heap, &mut pairs, word(words, source), word(words, schedule))?;
+                pairs.push(Pair::new(rt.alloc(), source, schedule)?)?
             }
-            Origin::List(at) => add_list(rt, &mut pairs, word(words, at))?,
+            Origin::List(path) => add_list(rt, &mut pairs, path)?,
         }
     }
     Ok(pairs)

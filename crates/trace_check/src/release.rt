@@ -1,38 +1,32 @@
 // The check of all pairs, one by one.
-use super::arguments::Kind;
-use super::desk::{Desk, Ended, SHELF_PAIRS};
 use super::pairs::Pair;
-use super::telling::{Texts, tell_failed, tell_passed, tell_refused};
-use super::trouble::Trouble;
-use std::fs;
+use super::texts::Texts;
+use desk::{AnswerText, Declined, Desk, DomainName, Trouble};
+use std::alloc::Global;
+use std::fmt;
 use validator::Verdict;
 
+// How many regions the shelf has: a pair is put into the region of its number's remainder.
+pub(crate) const SHELF_PAIRS: usize = 16;
+
 /// How many pairs came to each end.
-#[derive(Clone, Copy)]
+#[derive(Clone, Copy, Default)]
 pub struct Totals {
-    pub passed: usize,
-    pub failed: usize,
-    pub refused: usize,
+    passed: usize,
+    failed: usize,
+    refused: usize,
 }
 
 impl Totals {
-    fn new() -> Totals {
-        Totals {
-            passed: 0,
-            failed: 0,
-            refused: 0,
+    fn count(&mut self, answer: Result<Verdict, Declined>) {
+        match answer {
+            Ok(Verdict::Passed) => self.passed = self.passed.saturating_add(1),
+            Ok(Verdict::Failed(_)) => self.failed = self.failed.saturating_add(1),
+            Err(_) => self.count_refused(),
         }
     }
 
-    fn pass(&mut self) {
-        self.passed = self.passed.saturating_add(1);
-    }
-
-    fn fail(&mut self) {
-        self.failed = self.failed.saturating_add(1);
-    }
-
-    fn refuse(&mut self) {
+    fn count_refused(&mut self) {
         self.refused = self.refused.saturating_add(1);
     }
 
@@ -42,83 +36,74 @@ impl Totals {
     }
 }
 
-// The bytes of a file; where it cannot be read, says so and answers none.
-fn load(rt: &HostRuntime, number: usize, path: &str) -> Result<Option<Vec<u8>>, Trouble> {
-    match fs::read(rt, path) {
-        Ok(bytes) => Ok(Some(bytes)),
-        Err(e) => {
-            println!(rt; "{number} unreadable {path}\t{path}: {e}")?;
-            Ok(None)
-        }
+impl fmt::Display for Totals {
+    fn fmt<W: fmt::Write>(&self, f: &mut fmt::Formatter<W>) -> fmt::Result {
+        let passed = self.passed;
+        let failed = self.failed;
+        let refused = self.refused;
+        write!(
+            f,
+            "total {passed} passed, {failed} failed, {refused} refused"
+        )
     }
 }
 
-// The texts of a pair, where both can be read.
-fn load_pair(rt: &HostRuntime, number: usize, pair: &Pair) -> Result<Option<Texts>, Trouble> {
-    let Some(source) = load(rt, number, pair.source.as_str())? else {
-        return Ok(None);
-    };
-    let Some(schedule) = load(rt, number, pair.schedule.as_str())? else {
-        return Ok(None);
-    };
-    Ok(Some(Texts { source, schedule }))
+// Pairs on a desk, in a domain, as far as they are checked.
+#[derive(Drop)]
+struct Release {
+    desk: Desk,
+    domain: DomainName,
+    totals: Totals,
 }
 
-// Prints how the check of a pair ended, and counts it.
-fn tell(
-    rt: &HostRuntime,
-    totals: &mut Totals,
-    number: usize,
-    pair: &Pair,
-    texts: &Texts,
-    ended: Ended,
-) -> Result<(), Trouble> {
-    match ended {
-        Ended::Decided(Verdict::Passed) => {
-            totals.pass();
-            tell_passed(rt, number, pair)
+impl Release {
+    fn new(heap: Global, domain: DomainName) -> Result<Release, Trouble> {
+        let mut desk = Desk::new(heap, SHELF_PAIRS)?;
+        if let Err(declined) = desk.open() {
+            return Err(Trouble::Said(format!(in heap; "refused {declined}")?));
         }
-        Ended::Decided(Verdict::Failed(mismatch)) => {
-            totals.fail();
-            tell_failed(rt, number, pair, texts, mismatch)
-        }
-        Ended::Refused(call, refusal) => {
-            totals.refuse();
-            tell_refused(rt, number, pair, texts, call, refusal)
-        }
+        Ok(Release {
+            desk,
+            domain,
+            totals: Totals::default(),
+        })
     }
-}
 
-// Checks one pair. Each shelf takes sixteen; the first of sixteen finds it emptied.
-fn check_pair(
-    rt: &HostRuntime,
-    desk: &mut Desk,
-    totals: &mut Totals,
-    number: usize,
-    pair: &Pair,
-) -> Result<(), Trouble> {
-    let region = number % SHELF_PAIRS;
-    if region == 0 {
-        let _ = desk.clear();
+    // Checks a pair, prints what came of it, and counts it. Its source takes the place of the pair sixteen before it.
+    fn check(&mut self, rt: &HostRuntime, number: usize, pair: &Pair) -> Result<(), Trouble> {
+        let texts = match Texts::read(rt, pair) {
+            Ok(texts) => texts,
+            Err(unreadable) => {
+                self.totals.count_refused();
+                println!(rt; "{number} {unreadable}")?;
+                return Ok(());
+            }
+        };
+        let answer = self.desk.check(
+            self.domain,
+            number % SHELF_PAIRS,
+            texts.source.bytes.as_slice(),
+            texts.schedule.bytes.as_slice(),
+        );
+        self.totals.count(answer);
+        let text = AnswerText(answer);
+        let places = texts.places(answer);
+        println!(rt; "{number} {text}\t{places}")?;
+        Ok(())
     }
-    let Some(texts) = load_pair(rt, number, pair)? else {
-        totals.refuse();
-        return Ok(());
-    };
-    let ended = desk.check(region, texts.source.as_slice(), texts.schedule.as_slice());
-    tell(rt, totals, number, pair, &texts, ended)
 }
 
 /// Checks the pairs in order, and prints one line for each and one for all.
-pub(crate) fn check_all(rt: &HostRuntime, kind: Kind, pairs: &[Pair]) -> Result<Totals, Trouble> {
-    let mut desk = Desk::new(rt.alloc(), kind)?;
-    let mut totals = Totals::new();
+pub(crate) fn check_all(
+    rt: &HostRuntime,
+    domain: DomainName,
+    pairs: &[Pair],
+) -> Result<Totals, Trouble> {
+    let mut release = Release::new(rt.alloc(), domain)?;
     for (number, pair) in pairs.iter().enumerate() {
-        check_pair(rt, &mut desk, &mut totals, number, pair)?;
+        release.check(rt, number, pair)?;
     }
-    let passed = totals.passed;
-    let failed = totals.failed;
-    let refused = totals.refused;
-    println!(rt; "total {passed} passed, {failed} failed, {refused} refused")?;
+    let totals = release.totals;
+    println!(rt; "{totals}")?;
     Ok(totals)
 }

@@ -1,80 +1,98 @@
 // Places in texts, as a person opens them.
-use std::alloc::{AllocError, Global};
+use std::fmt;
+use std::fmt::Write;
 
 // So much of a line is shown; a good line is shorter.
 const SHOWN: usize = 72;
 
-/// The lines of a text in printable characters.
-#[derive(Drop)]
-pub struct Lines {
-    lines: Vec<String>,
+/// A place as it is printed: a file; a line of it, with its number; or how many joins it has.
+#[derive(Clone, Copy)]
+pub enum Spot<'a> {
+    File(&'a str),
+    Line {
+        path: &'a str,
+        number: usize,
+        line: Option<&'a [u8]>,
+    },
+    Joins {
+        path: &'a str,
+        joins: usize,
+    },
 }
 
-// A byte as it is shown: what parts fields is a space, and what cannot be printed a question mark.
-fn shown(b: u8) -> char {
-    if b == b'\t' || b == b' ' {
-        ' '
-    } else if b.is_ascii_graphic() {
-        char::from(b)
-    } else {
-        '?'
-    }
-}
-
-impl Lines {
-    /// The lines of a text.
-    pub(crate) fn of(heap: Global, text: &[u8]) -> Result<Lines, AllocError> {
-        let mut lines = Vec::new(heap);
-        let mut line = String::new(heap);
-        for b in text {
-            if *b == b'\n' {
-                lines.push(line)?;
-                line = String::new(heap);
-            } else if line.len() < SHOWN {
-                line.push(shown(*b))?;
+impl fmt::Display for Spot<'_> {
+    fn fmt<W: fmt::Write>(&self, f: &mut fmt::Formatter<W>) -> fmt::Result {
+        match *self {
+            Spot::File(path) => f.write_str(path),
+            Spot::Joins { path, joins } => write!(f, "{path}: joins {joins}"),
+            Spot::Line { path, number, line } => {
+                write!(f, "{path}:{number} ")?;
+                match line {
+                    Some(line) => show(f, line),
+                    None => f.write_str("(the text ends here)"),
+                }
             }
         }
-        if !line.is_empty() {
-            lines.push(line)?;
-        }
-        Ok(Lines { lines })
     }
+}
 
-    /// The line of a number; lines count from 1.
-    pub(crate) fn get(&self, number: usize) -> &str {
-        if number > 0 && number <= self.lines.len() {
-            self.lines[number - 1].as_str()
-        } else {
-            "(the text ends here)"
+// The byte in printable characters: what parts fields is a space, and what cannot be printed a question mark.
+fn shown(b: u8) -> char {
+    match b {
+        b'\t' | b' ' => ' ',
+        _ if b.is_ascii_graphic() => char::from(b),
+        _ => '?',
+    }
+}
+
+// The beginning of a line, without the LF that ends it.
+fn show<W: fmt::Write>(f: &mut fmt::Formatter<W>, line: &[u8]) -> fmt::Result {
+    for b in line.iter().take(SHOWN).take_while(|b| **b != b'\n') {
+        f.write_char(shown(*b))?;
+    }
+    Ok(())
+}
+
+/// The lines of a text. They count from 1; what stands behind the last LF is a line where it is not empty.
+#[derive(Clone, Copy)]
+pub struct Lines<'a>(pub &'a [u8]);
+
+impl<'a> Lines<'a> {
+    /// The line of a number as a place; the file alone where the number is 0.
+    pub(crate) fn spot(self, path: &'a str, number: usize) -> Spot<'a> {
+        match number.checked_sub(1) {
+            None => Spot::File(path),
+            Some(before) => Spot::Line {
+                path,
+                number,
+                line: self.0.split_inclusive(|b| *b == b'\n').nth(before),
+            },
         }
     }
 
     /// How many joins the line of rows has.
-    pub(crate) fn joins(&self) -> usize {
-        let mut joins: usize = 0;
-        for line in self.lines.iter() {
-            if line.as_str().starts_with('J') {
-                joins = joins.saturating_add(1);
-            }
-        }
-        joins
+    pub(crate) fn joins(self) -> usize {
+        self.0
+            .split_inclusive(|b| *b == b'\n')
+            .filter(|line| line.starts_with(b"J"))
+            .count()
     }
 
     /// The number of the line where a stop stands: of the exits below the entry's join the one of that number,
     /// counted from 1, or the end where there are fewer.
-    pub(crate) fn stop(&self, entry: u8, stop: u8) -> usize {
+    pub(crate) fn stop(self, entry: u8, stop: u8) -> usize {
         let mut walk = Walk {
             joins: entry,
             exits: stop,
         };
-        let mut number: usize = 0;
-        for line in self.lines.iter() {
-            number = number.saturating_add(1);
-            if walk.stops_at(line.as_str()) {
+        let mut last = 0;
+        for (number, line) in (1usize..).zip(self.0.split_inclusive(|b| *b == b'\n')) {
+            if walk.stops_at(line) {
                 return number;
             }
+            last = number;
         }
-        number
+        last
     }
 }
 
@@ -87,31 +105,16 @@ struct Walk {
 
 impl Walk {
     // Passes a line; whether the walk stops there.
-    fn stops_at(&mut self, line: &str) -> bool {
-        if line.starts_with('E') {
-            return true;
-        }
-        if line.starts_with('J') {
-            self.joins = self.joins.saturating_sub(1);
-        }
-        if line.starts_with('X') && self.joins == 0 {
-            self.exits = self.exits.saturating_sub(1);
-            return self.exits == 0;
+    fn stops_at(&mut self, line: &[u8]) -> bool {
+        match line.first() {
+            Some(b'E') => return true,
+            Some(b'J') => self.joins = self.joins.saturating_sub(1),
+            Some(b'X') if self.joins == 0 => {
+                self.exits = self.exits.saturating_sub(1);
+                return self.exits == 0;
+            }
+            _ => {}
         }
         false
     }
-}
-
-/// A place as it is printed: the file, the line's number and the line; the file alone where the number is 0.
-pub(crate) fn spot(
-    heap: Global,
-    path: &str,
-    lines: &Lines,
-    number: usize,
-) -> Result<String, AllocError> {
-    if number == 0 {
-        return String::from_str(heap, path);
-    }
-    let line = lines.get(number);
-    format!(in heap; "{path}:{number} {line}")
 }

@@ -1,6 +1,6 @@
-use super::arguments::Kind;
-use super::desk::{Call, Desk, Ended};
-use super::spots::{Lines, spot};
+use super::release::SHELF_PAIRS;
+use super::spots::Lines;
+use desk::{Call, Declined, Desk, DomainName};
 use std::test::Fail;
 use validator::{Reason, Verdict};
 
@@ -9,7 +9,7 @@ const SOURCE: &[u8] =
 
 #[test]
 fn stops_are_counted_from_the_entry(rt: HostRuntime) -> Result<(), Fail> {
-    let lines = Lines::of(rt.alloc(), SOURCE)?;
+    let lines = Lines(SOURCE);
     assert_eq!(rt; lines.joins(), 2);
     assert_eq!(rt; lines.stop(0, 1), 2);
     assert_eq!(rt; lines.stop(0, 2), 3);
@@ -20,7 +20,7 @@ fn stops_are_counted_from_the_entry(rt: HostRuntime) -> Result<(), Fail> {
 
 #[test]
 fn the_last_stop_is_the_end(rt: HostRuntime) -> Result<(), Fail> {
-    let lines = Lines::of(rt.alloc(), SOURCE)?;
+    let lines = Lines(SOURCE);
     assert_eq!(rt; lines.stop(0, 4), 8);
     assert_eq!(rt; lines.stop(1, 2), 8);
     assert_eq!(rt; lines.stop(2, 1), 8);
@@ -29,26 +29,26 @@ fn the_last_stop_is_the_end(rt: HostRuntime) -> Result<(), Fail> {
 
 #[test]
 fn places_are_printable(rt: HostRuntime) -> Result<(), Fail> {
-    let lines = Lines::of(rt.alloc(), b"E\tout\n\x00\xffx\ty")?;
-    let first = spot(rt.alloc(), "a", &lines, 1)?;
+    let lines = Lines(b"E\tout\n\x00\xffx\ty");
+    let first = lines.spot("a", 1).to_string(rt.alloc())?;
     assert_eq!(rt; first.as_str(), "a:1 E out");
-    let second = spot(rt.alloc(), "a", &lines, 2)?;
+    let second = lines.spot("a", 2).to_string(rt.alloc())?;
     assert_eq!(rt; second.as_str(), "a:2 ??x y");
-    let third = spot(rt.alloc(), "a", &lines, 3)?;
+    let third = lines.spot("a", 3).to_string(rt.alloc())?;
     assert_eq!(rt; third.as_str(), "a:3 (the text ends here)");
-    let none = spot(rt.alloc(), "a", &lines, 0)?;
+    let none = lines.spot("a", 0).to_string(rt.alloc())?;
     assert_eq!(rt; none.as_str(), "a");
     Ok(())
 }
 
 #[test]
 fn a_store_above_an_exit_fails(rt: HostRuntime) -> Result<(), Fail> {
-    let mut desk = Desk::new(rt.alloc(), Kind::Wrapping)?;
-    let _ = desk.clear();
+    let mut desk = Desk::new(rt.alloc(), SHELF_PAIRS)?;
+    let _ = desk.open();
     let source = b"M\tout\t0000\nX\t1\tout\nS\t2\t5\t6\nE\tout\n";
     let schedule = b"S\t2\t5\t6\nX\t1\tout\nE\tout\n";
-    match desk.check(15, source, schedule) {
-        Ended::Decided(Verdict::Failed(m)) => {
+    match desk.check(DomainName::Wrapping, 15, source, schedule) {
+        Ok(Verdict::Failed(m)) => {
             assert_eq!(rt; m.entry, 0);
             assert_eq!(rt; m.stop, 1);
             assert!(rt; matches!(m.reason, Reason::Bank));
@@ -61,10 +61,15 @@ fn a_store_above_an_exit_fails(rt: HostRuntime) -> Result<(), Fail> {
 
 #[test]
 fn a_shelf_has_sixteen_places(rt: HostRuntime) -> Result<(), Fail> {
-    let mut desk = Desk::new(rt.alloc(), Kind::Wrapping)?;
-    let _ = desk.clear();
-    match desk.check(16, b"", b"") {
-        Ended::Refused(Call::Source, refusal) => {
+    let mut desk = Desk::new(rt.alloc(), SHELF_PAIRS)?;
+    let _ = desk.open();
+    match desk.check(DomainName::Wrapping, 16, b"", b"") {
+        Err(
+            Declined {
+                call: Call::Source,
+                refusal,
+            },
+        ) => {
             assert_eq!(rt; refusal.number.printed(), 2);
             Ok(())
         },

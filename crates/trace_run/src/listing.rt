@@ -1,138 +1,84 @@
-// A source as a person reads it.
-use super::trouble::Trouble;
-use domain::Op;
-use region::{Action, LabelNumber, LabelRow, Name, Row, Shape};
-use std::alloc::{AllocError, Global};
+// Labels and rows as a person reads them.
+use region::{Action, LabelNumber, LabelRow, Name, Row};
+use std::fmt;
+use std::fmt::Write;
 
-/// A name's characters.
-pub(crate) fn name_text(heap: Global, name: Option<Name>) -> Result<String, AllocError> {
-    let mut text = String::new(heap);
-    if let Some(name) = name {
-        for b in name.bytes() {
-            if b != 0 {
-                text.push(char::from(b))?;
+/// A label's name; nothing where there is none.
+#[derive(Clone, Copy)]
+pub struct NameText(pub Option<Name>);
+
+impl fmt::Display for NameText {
+    fn fmt<W: fmt::Write>(&self, f: &mut fmt::Formatter<W>) -> fmt::Result {
+        if let Some(name) = self.0 {
+            for b in name.bytes().into_iter().take_while(|b| *b != 0) {
+                f.write_char(char::from(b))?;
+            }
+        }
+        Ok(())
+    }
+}
+
+/// The name of a label among these rows.
+pub(crate) fn label_text(labels: &[LabelRow], label: LabelNumber) -> NameText {
+    NameText(labels.get(label.get()).and_then(|row| row.name))
+}
+
+// An action, as texts write it, with spaces between its fields.
+#[derive(Clone, Copy)]
+struct ActionText(Action);
+
+impl fmt::Display for ActionText {
+    fn fmt<W: fmt::Write>(&self, f: &mut fmt::Formatter<W>) -> fmt::Result {
+        match self.0 {
+            Action::Operate {
+                op,
+                to,
+                left,
+                right,
+            } => {
+                let (o, d, a, b) = (op as u8, to.get(), left.get(), right.get());
+                write!(f, "O {o} {d} {a} {b}")
+            }
+            Action::Literal { to, value } => {
+                let d = to.get();
+                write!(f, "I {d} {value}")
+            }
+            Action::Load { to, bank, address } => {
+                let (d, k, a) = (to.get(), bank.get(), address.get());
+                write!(f, "L {d} {k} {a}")
+            }
+            Action::Store {
+                bank,
+                address,
+                from,
+            } => {
+                let (k, a, s) = (bank.get(), address.get(), from.get());
+                write!(f, "S {k} {a} {s}")
             }
         }
     }
-    Ok(text)
 }
 
-/// A label by its name.
-pub(crate) fn label_text(
-    heap: Global,
-    labels: &[LabelRow],
-    label: LabelNumber,
-) -> Result<String, AllocError> {
-    let at = label.get();
-    if at < labels.len() {
-        let row = labels[at];
-        return name_text(heap, row.name);
-    }
-    Ok(String::new(heap))
+/// A row, as texts write it, with spaces between its fields.
+#[derive(Clone, Copy)]
+pub struct RowText<'a> {
+    pub row: Row,
+    pub labels: &'a [LabelRow],
 }
 
-fn op_number(op: Op) -> u8 {
-    match op {
-        Op::Add => 0,
-        Op::Sub => 1,
-        Op::Mul => 2,
-        Op::Div => 3,
-        Op::Lt => 4,
-        Op::Eq => 5,
-        Op::And => 6,
-        Op::Or => 7,
-    }
-}
-
-fn action_text(heap: Global, action: Action) -> Result<String, AllocError> {
-    match action {
-        Action::Operate {
-            op,
-            to,
-            left,
-            right,
-        } => {
-            let (o, d, a, b) = (op_number(op), to.get(), left.get(), right.get());
-            format!(in heap; "O {o} {d} {a} {b}")
-        }
-        Action::Literal { to, value } => {
-            let d = to.get();
-            format!(in heap; "I {d} {value}")
-        }
-        Action::Load { to, bank, address } => {
-            let (d, k, a) = (to.get(), bank.get(), address.get());
-            format!(in heap; "L {d} {k} {a}")
-        }
-        Action::Store {
-            bank,
-            address,
-            from,
-        } => {
-            let (k, a, s) = (bank.get(), address.get(), from.get());
-            format!(in heap; "S {k} {a} {s}")
+impl fmt::Display for RowText<'_> {
+    fn fmt<W: fmt::Write>(&self, f: &mut fmt::Formatter<W>) -> fmt::Result {
+        match self.row {
+            Row::Act(action) => {
+                let text = ActionText(action);
+                write!(f, "{text}")
+            }
+            Row::Exit { tested, label } => {
+                let t = tested.get();
+                let name = label_text(self.labels, label);
+                write!(f, "X {t} {name}")
+            }
+            Row::Join => f.write_str("J"),
         }
     }
-}
-
-fn row_text(heap: Global, labels: &[LabelRow], row: Row) -> Result<String, AllocError> {
-    match row {
-        Row::Act(action) => action_text(heap, action),
-        Row::Exit { tested, label } => {
-            let t = tested.get();
-            let name = label_text(heap, labels, label)?;
-            format!(in heap; "X {t} {name}")
-        }
-        Row::Join => String::from_str(heap, "J"),
-    }
-}
-
-fn exits_in(rows: &[Row]) -> usize {
-    let mut count: usize = 0;
-    for row in rows {
-        if let Row::Exit {
-            tested: _,
-            label: _,
-        } = *row
-        {
-            count = count.saturating_add(1);
-        }
-    }
-    count
-}
-
-/// Prints the labels that are declared.
-pub(crate) fn show_labels(rt: &HostRuntime, labels: &[LabelRow]) -> Result<(), Trouble> {
-    for (number, label) in labels.iter().enumerate() {
-        let row = *label;
-        if row.name.is_some() {
-            let name = name_text(rt.alloc(), row.name)?;
-            let live = row.live;
-            println!(rt; "label {number}: {name}, live {live:04x}")?;
-        }
-    }
-    Ok(())
-}
-
-fn show_rows(rt: &HostRuntime, labels: &[LabelRow], rows: &[Row]) -> Result<(), Trouble> {
-    for (number, row) in rows.iter().enumerate() {
-        let text = row_text(rt.alloc(), labels, *row)?;
-        println!(rt; "row {number}: {text}")?;
-    }
-    Ok(())
-}
-
-/// Prints a line that a region's rows hold.
-pub(crate) fn show_line(
-    rt: &HostRuntime,
-    path: &str,
-    labels: &[LabelRow],
-    rows: &[Row],
-    shape: &Shape,
-) -> Result<(), Trouble> {
-    let exits = exits_in(rows);
-    let joins = shape.joins();
-    let count = rows.len();
-    let end = label_text(rt.alloc(), labels, shape.end())?;
-    println!(rt; "{path}: rows {count}, exits {exits}, joins {joins}, end {end}")?;
-    show_rows(rt, labels, rows)
 }

@@ -1,5 +1,5 @@
 // Refusals as a person reads them.
-use super::trouble::Trouble;
+use desk::Trouble;
 use region_text::Fault;
 use shelf::{Number, Refusal};
 use std::alloc::Global;
@@ -29,17 +29,14 @@ fn fault_words(fault: Fault) -> &'static str {
     }
 }
 
-/// A refusal, and the file or argument that it is about.
+/// A refusal, and the file or call that it is about.
 pub(crate) fn refused(heap: Global, about: &str, refusal: Refusal) -> Trouble {
     let number = refusal.number.printed();
     let line = refusal.line;
     let field = refusal.field;
     let layer = refusal.layer.name();
     let words = number_words(refusal.number);
-    match format!(in heap;
+    format!(in heap;
         "{about}: line {line}, field {field}: {words} (refusal {number}, layer {layer})"
-    ) {
-        Ok(text) => Trouble::Said(text),
-        Err(_) => Trouble::Memory,
-    }
+    ).map_or_else(Trouble::Memory, Trouble::Said)
 }

@@ -1,67 +1,38 @@
-// The run of what a region holds, told step by step.
-use super::listing::{label_text, show_line};
-use super::refusals::refused;
-use super::trouble::Trouble;
-use super::words::Numeral;
-use region::{LabelRow, Outcome, Part, Row, Side};
-use shelf::Shelf;
-use std::alloc::Global;
+// The run of what the region holds.
+use super::arguments::Run;
+use super::held::{Held, unreadable};
+use super::words::{NumberDomain, Numeral, read_words};
+use desk::Trouble;
+use domain::{Trapping, Wrapping};
+use region::{STATE_WORDS, Side};
+use std::{fmt, fs};
 
-/// What is to be run, and from where.
+// How many registers there are, and how many cells each bank has.
+const CELLS: usize = 16;
+
+// The place of a word in a state: a register, or a cell of a bank.
 #[derive(Clone, Copy)]
-pub struct Start {
-    pub side: Side,
-    pub entry: usize,
-    pub all: bool,
-}
+struct Place(usize);
 
-/// Prints the source or the schedule that the region holds.
-pub(crate) fn show_held(
-    rt: &HostRuntime,
-    path: &str,
-    shelf: &Shelf,
-    rows: &[Row],
-    labels: &[LabelRow],
-    side: Side,
-) -> Result<(), Trouble> {
-    let record = match shelf.kept(0) {
-        Ok(record) => record,
-        Err(refusal) => return Err(refused(rt.alloc(), path, refusal)),
-    };
-    let held = match side {
-        Side::Source => record.source,
-        Side::Schedule => record.schedule,
-    };
-    if let Some(shape) = held {
-        if let Some(part) = Part::new(rows) {
-            return show_line(rt, path, labels, part.main(side, &shape), &shape);
+impl fmt::Display for Place {
+    fn fmt<W: fmt::Write>(&self, f: &mut fmt::Formatter<W>) -> fmt::Result {
+        let cell = self.0 % CELLS;
+        match self.0 / CELLS {
+            0 => write!(f, "register {cell}"),
+            part => {
+                let bank = part - 1;
+                write!(f, "bank {bank} cell {cell}")
+            }
         }
     }
-    Ok(())
-}
-
-fn show_change<D: Numeral>(
-    rt: &HostRuntime,
-    at: usize,
-    before: D,
-    after: D,
-) -> Result<(), Trouble> {
-    let old = before.number();
-    let new = after.number();
-    if at < 16 {
-        println!(rt; "register {at}: {old} -> {new}")?;
-    } else {
-        let bank = (at - 16) / 16;
-        let cell = at % 16;
-        println!(rt; "bank {bank} cell {cell}: {old} -> {new}")?;
-    }
-    Ok(())
 }
 
 fn show_changes<D: Numeral>(rt: &HostRuntime, before: &[D], after: &[D]) -> Result<(), Trouble> {
-    for (at, (old, new)) in before.iter().zip(after.iter()).enumerate() {
-        if old.number() != new.number() {
-            show_change(rt, at, *old, *new)?;
+    for (at, (old, new)) in before.iter().zip(after).enumerate() {
+        if old != new {
+            let place = Place(at);
+            let (old, new) = (old.number(), new.number());
+            println!(rt; "{place}: {old} -> {new}")?;
         }
     }
     Ok(())
@@ -75,43 +46,47 @@ fn show_all<D: Numeral>(rt: &HostRuntime, state: &[D]) -> Result<(), Trouble> {
     Ok(())
 }
 
-fn copy<D: Numeral>(heap: Global, state: &[D]) -> Result<Vec<D>, Trouble> {
-    let mut words = Vec::new(heap);
-    for word in state {
-        words.push(*word)?;
+// The state before the run: the words of a file, or all zero.
+fn read_state<D: Numeral>(rt: &HostRuntime, words: Option<&str>) -> Result<Vec<D>, Trouble> {
+    let mut state = vec![in rt.alloc(); D::literal(0); STATE_WORDS]?;
+    if let Some(path) = words {
+        let text = fs::read_to_string(rt, path).map_err(|error| unreadable(
+            rt.alloc(),
+            path,
+            error,
+        ))?;
+        read_words(rt.alloc(), path, text.as_str(), state.as_mut_slice())?;
     }
-    Ok(words)
+    Ok(state)
 }
 
-fn show_outcome(rt: &HostRuntime, labels: &[LabelRow], outcome: Outcome) -> Result<(), Trouble> {
-    match outcome {
-        Outcome::Reached(label) => {
-            let name = label_text(rt.alloc(), labels, label)?;
-            println!(rt; "reached {name}")?;
-        }
-        Outcome::Trapped => println!(rt; "trapped")?,
-    }
-    Ok(())
-}
-
-/// Runs what the region holds on a state, and prints how it ended and what it changed.
-pub(crate) fn run_held<D: Numeral>(
-    rt: &HostRuntime,
-    shelf: &Shelf,
-    rows: &[Row],
-    labels: &[LabelRow],
-    start: Start,
-    state: &mut [D],
-) -> Result<(), Trouble> {
-    let before = copy(rt.alloc(), state)?;
-    let outcome = match shelf.run(rows, labels, 0, start.side, start.entry, state) {
-        Ok(outcome) => outcome,
-        Err(refusal) => return Err(refused(rt.alloc(), "run", refusal)),
+fn run_in<D: Numeral>(rt: &HostRuntime, run: &Run, held: &Held) -> Result<(), Trouble> {
+    let before = read_state::<D>(rt, run.words)?;
+    let mut state = Vec::from_slice(rt.alloc(), before.as_slice())?;
+    let side = match run.schedule {
+        Some(_) => Side::Schedule,
+        None => Side::Source,
     };
-    show_outcome(rt, labels, outcome)?;
-    if start.all {
-        show_all(rt, state)
+    held.run(rt, side, run.entry, state.as_mut_slice())?;
+    if run.all {
+        show_all(rt, state.as_slice())
     } else {
-        show_changes(rt, before.as_slice(), state)
+        show_changes(rt, before.as_slice(), state.as_slice())
+    }
+}
+
+/// Reads a source, and a schedule of it if there is one, and runs what was read.
+pub(crate) fn serve(rt: &HostRuntime, run: &Run) -> Result<(), Trouble> {
+    let mut held = Held::new(rt.alloc())?;
+    held.put_source(rt, run.source)?;
+    if let Some(path) = run.schedule {
+        held.put_schedule(rt, path)?;
+    }
+    let entry = run.entry;
+    let domain = run.domain;
+    println!(rt; "run from entry {entry} in domain {domain}")?;
+    match domain {
+        NumberDomain::Wrapping => run_in::<Wrapping>(rt, run, &held),
+        NumberDomain::Trapping => run_in::<Trapping>(rt, run, &held),
     }
 }

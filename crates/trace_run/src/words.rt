@@ -1,49 +1,78 @@
 // Words as they are written in a file of words and on the screen: decimal numbers.
-use super::trouble::Trouble;
+use desk::{Trouble, UnknownDomain};
 use domain::{Domain, Trapping, Wrapping};
 use std::alloc::Global;
+use std::fmt;
+use std::num::TryFromIntError;
+use std::str::FromStr;
 
-/// A domain whose words are numbers.
-pub trait Numeral: Domain {
-    /// The word of a number, where there is one.
-    fn of_number(number: i64) -> Option<Self>;
+/// A domain whose words are plain numbers.
+#[derive(Clone, Copy)]
+pub enum NumberDomain {
+    Wrapping,
+    Trapping,
+}
+
+impl FromStr for NumberDomain {
+    type Err = UnknownDomain;
+
+    fn from_str(word: &str) -> Result<NumberDomain, UnknownDomain> {
+        match word {
+            "w" => Ok(NumberDomain::Wrapping),
+            "t" => Ok(NumberDomain::Trapping),
+            _ => Err(UnknownDomain),
+        }
+    }
+}
+
+impl fmt::Display for NumberDomain {
+    fn fmt<W: fmt::Write>(&self, f: &mut fmt::Formatter<W>) -> fmt::Result {
+        f.write_str(match self {
+            NumberDomain::Wrapping => "w",
+            NumberDomain::Trapping => "t",
+        })
+    }
+}
+
+/// The words of such a domain, each with its number.
+pub trait Numeral: Domain + PartialEq {
+    type Number: TryFrom<i64, Error = TryFromIntError> + fmt::Display + Drop;
+
+    /// The word of a number.
+    fn of(number: Self::Number) -> Self;
 
     /// The number of the word.
-    fn number(self) -> i64;
+    fn number(self) -> Self::Number;
 }
 
 impl Numeral for Wrapping {
-    fn of_number(number: i64) -> Option<Wrapping> {
-        match u32::try_from(number) {
-            Ok(value) => Some(Wrapping { value }),
-            Err(_) => None,
-        }
+    type Number = u32;
+
+    fn of(value: u32) -> Wrapping {
+        Wrapping { value }
     }
 
-    fn number(self) -> i64 {
-        i64::from(self.value)
+    fn number(self) -> u32 {
+        self.value
     }
 }
 
 impl Numeral for Trapping {
-    fn of_number(number: i64) -> Option<Trapping> {
-        match i32::try_from(number) {
-            Ok(value) => Some(Trapping { value }),
-            Err(_) => None,
-        }
+    type Number = i32;
+
+    fn of(value: i32) -> Trapping {
+        Trapping { value }
     }
 
-    fn number(self) -> i64 {
-        i64::from(self.value)
+    fn number(self) -> i32 {
+        self.value
     }
 }
 
-/// The word that a line says.
+// The word that a line says.
 fn read_word<D: Numeral>(line: &str) -> Option<D> {
-    match line.parse::<i64>() {
-        Ok(number) => D::of_number(number),
-        Err(_) => None,
-    }
+    let number = line.parse::<i64>().ok()?;
+    Some(D::of(D::Number::try_from(number).ok()?))
 }
 
 /// Reads as many words as the state has, one to a line.
