@@ -19,10 +19,7 @@ pub fn below(main: &[Row], j: usize) -> Position
     for (i, row) in main.iter().enumerate() {
         match *row {
             Row::Act(_) => {}
-            Row::Exit {
-                tested: _,
-                label: _,
-            } => exits += 1,
+            Row::Exit { .. } => exits += 1,
             Row::Join => {
                 if above == j {
                     return Position {
