@@ -1,7 +1,8 @@
 -- What a found number means, over plain lists.
-use Rattle.std.proofs.Common.{◌≡◌, ℕ, ◌+◌, ◌<◌, ◌≤◌, Bool, true, false, cond, ltb, ◌⊎◌, List, [], ◌∷◌, ◌++◌, length, get_or, Some, None, Option, sym, refl, inl, inr, not-suc-le-zero, arith, length-append}
+use Rattle.std.proofs.Common.{◌≡◌, ℕ, ◌+◌, ◌<◌, ◌≤◌, Bool, true, false, ◌⊎◌, List, [], ◌∷◌, ◌++◌, length, get_or, Some, None, Option, refl, inl, inr, not-suc-le-zero, arith, length-append}
 use Rattle.std.specs.List.{position_or_len}
-use Rattle.std.proofs.lemmas.Bool.{both_ways, cases_lt, lt-ltb, ltb-false}
+use Rattle.std.proofs.lemmas.Bool.Decides.{nat_tests}
+use Rattle.std.proofs.lemmas.Bool.{both_ways, cases_lt, lt-ltb}
 use Rattle.std.proofs.lemmas.List.{get_or_append_left, get_or_push, length_push}
 use Rattle.std.proofs.lemmas.List.Quantifiers.{position-Some}
 use Rattle.std.proofs.lemmas.List.Sums.{position_or_len_is, fails_before_first}
@@ -22,14 +23,7 @@ module _ {R : Type 0} (eq : R → R → Bool) (row : R) where
 
   -- where no number is found, no row equals the row
   pub none_is : (xs : List R) (d : R) → found eq xs row ≡ None → (i : ℕ) → i < length xs → eq (get_or xs i d) row ≡ false
-  none_is xs d e i l = fails_before_first (λ x. eq x row) xs i d (omega (arith, all_passed))
-    where
-      go : (b : Bool) → ltb (position_or_len (λ x. eq x row) xs) (length xs) ≡ b → cond b (Some (position_or_len (λ x. eq x row) xs)) None ≡ None → length xs ≤ position_or_len (λ x. eq x row) xs
-      go true t p = none_is_some _ (sym p)
-      go false t p = ltb-false _ _ t
-
-      all_passed : length xs ≤ position_or_len (λ x. eq x row) xs
-      all_passed = go (ltb (position_or_len (λ x. eq x row) xs) (length xs)) refl e
+  none_is xs d e i l = fails_before_first (λ x. eq x row) xs i d (grind (arith, nat_tests))
 
   -- the first row that equals the row is found
   first_found : (xs : List R) (k : ℕ) → k < length xs → ((j : ℕ) → j < k → eq (get_or xs j row) row ≡ false) → eq (get_or xs k row) row ≡ true → found eq xs row ≡ Some k

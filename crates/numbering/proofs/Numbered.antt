@@ -3,7 +3,7 @@ use Rattle.std.proofs.Common.{◌≡◌, ℕ, ◌+◌, ◌<◌, ◌≤◌, Bool,
 use Rattle.std.proofs.lemmas.Bool.{ltb-true, ltb-false}
 use Rattle.std.proofs.lemmas.List.{append-nil, length_push}
 use Rattle.numbering.specs.Rows.{found, or_next, or_pushed, numbered, with_row, Distinct, Equivalence, KeptDistinct, OneNumber}
-use Rattle.numbering.proofs.Found.{none_is_some, found_kept, found_push, distinct_push, found_one}
+use Rattle.numbering.proofs.Found.{found_kept, found_push, distinct_push, found_one}
 
 module _ {R : Type 0} (eq : R → R → Bool) (room : ℕ) (xs : List R) (row : R) where
   -- what holds of the answer and of the rows after it, in each of the three ways, holds
@@ -53,7 +53,7 @@ module _ {R : Type 0} (eq : R → R → Bool) (room : ℕ) (xs : List R) (row : 
   pub numbered_found : eq row row ≡ true → (i : ℕ) → numbered eq room xs row ≡ Some i → found eq (with_row eq room xs row) row ≡ Some i
   numbered_found own i =
       by_ways (λ o after. o ≡ Some i → found eq after row ≡ Some i)
-      (λ k e p. e ∙ p) (λ e l p. found_push eq row own xs e ∙ p) (λ e l p. none_is_some i p)
+      (λ k e p. e ∙ p) (λ e l p. found_push eq row own xs e ∙ p) (λ e l p. cc)
 
 module _ {R : Type 0} (eq : R → R → Bool) (laws : Equivalence eq) (room : ℕ) (xs : List R) (row : R) where
   -- numbering keeps rows distinct

@@ -37,8 +37,7 @@ impl<'a, R: Kind + Copy> Table<'a, R> {
     pub fn len(&self) -> usize
         ensures { result ≡ length (used self.now) }
     {
-        let count = self.len;
-        count
+        self.rows().len()
     }
 
     /// The number of the row, or `None` where it has none.

@@ -8,14 +8,14 @@ use Rattle.region.specs.declared.row.Row.{Row}
 use Rattle.region.specs.declared.row.Row.TheVariants as row
 use Rattle.region.specs.Pieces.{piece_takes, put_in}
 use Rattle.region.specs.Rows.{main_fits, exits_in, joins_in}
-use Rattle.region_text.specs.declared.fault.Fault.TheVariants.{Malformed, OutOfPlace}
+use Rattle.region_text.specs.declared.fault.Fault.TheVariants.{OutOfPlace}
 use Rattle.region_text.specs.declared.fault.FieldFault.{FieldFault}
 use Rattle.region_text.specs.declared.fault.LineFault.{LineFault}
-use Rattle.region_text.specs.declared.fault.LineFault.TheVariants.{Field, Line}
+use Rattle.region_text.specs.declared.fault.LineFault.TheVariants.{Line}
 use Rattle.region_text.specs.declared.fault.Refusal.{Refusal}
 use Rattle.region_text.specs.declared.letter.Letter.{Letter}
 use Rattle.region_text.specs.declared.letter.Letter.TheVariants.{Declare, Operate, Literal, Load, Store, Exit, Join, End, ExitPiece, JoinPiece}
-use Rattle.region_text.specs.Faults.{refusal_of, unended}
+use Rattle.region_text.specs.Faults.{refusal_of}
 use Rattle.region_text.specs.Letters.{form}
 use Rattle.region_text.specs.Records.{label_row, label_in, operate_row, literal_row, load_row, store_row, exit_row, piece_in}
 use Rattle.region_text.specs.Schedules as schedules
@@ -41,14 +41,10 @@ pub record ScheduleFits (x : Schedule) : Type 0 where
   pub eight : length x.exits ≡ 8
   pub four : length x.entries ≡ 4
 
--- a refusal says nothing
-no : {X E : Type 0} {P : Type 0} (e : E) (x : X) → Err e ≡ Ok x → P
-no e x p = cc
-
 -- what is granted under a test passed it
 granted : {X E : Type 0} (b : Bool) (x y : X) (e : E) → cond b (Ok x) (Err e) ≡ Ok y → (b ≡ true) × (x ≡ y)
 granted true x y e p = (refl, cc)
-granted false x y e p = no e y p
+granted false x y e p = cc
 
 fits_rows : (rs : List Row) → main_fits rs ≡ true → length rs ≤ 96
 fits_rows rs e = leb-true _ _ (and_parts _ _ (and_parts _ _ e).0).0
@@ -58,7 +54,7 @@ module _ {S X : Type 0} (take_line : S → ℕ → TextLine → Result S LineFau
     (line : (s : S) (l : ℕ) (x : TextLine) (t : S) → take_line s l x ≡ Ok t → P s → P t)
     (end : (s : S) (e : LabelNumber) → P s → Q (k s e)) where
   finished : (l : ℕ) (s : S) (o : Option LabelNumber) (y : X) → whole k (or_unended l s o) ≡ Ok y → P s → Q y
-  finished l s None y e p = no (unended l) y e
+  finished l s None y e p = cc
   finished l s (Some n) y e p = let z : k s n ≡ y = cc in subst Q z (end s n p)
 
   pub all_fit : (xs : List TextLine) (s : S) (l : ℕ) (y : X) → whole k (all_taken take_line end_of s l xs) ≡ Ok y → P s → Q y
@@ -67,7 +63,7 @@ module _ {S X : Type 0} (take_line : S → ℕ → TextLine → Result S LineFau
     where
       go : (r : Result S LineFault) → take_line s l x ≡ r → ◌≡◌ {A = Result X Refusal} (whole k (elim r [ Err f ↦ Err (refusal_of f) | Ok t ↦ all_taken take_line end_of t (l + 1) xs ])) (Ok y)
           → ((t : S) → whole k (all_taken take_line end_of t (l + 1) xs) ≡ Ok y → P t → Q y) → Q y
-      go (Err f) q d k = no (refusal_of f) y d
+      go (Err f) q d k = cc
       go (Ok t) q d k = k t d (line s l x t q p)
 
 -- a line is taken only where its record is known and in its place
@@ -75,10 +71,10 @@ module _ {S : Type 0} (in_place : Letter → S → Bool) (take_record : Letter �
     (record_fits : (c : Letter) (s : S) (x : LineFields) (t : S) → take_record c s x ≡ Ok t → P s → P t) where
   in_its_place : (c : Letter) (s : S) (x : LineFields) (t : S) (b : Bool) → cond b (take_record c s x) (Err (Line OutOfPlace x.number)) ≡ Ok t → P s → P t
   in_its_place c s x t true d p = record_fits c s x t d p
-  in_its_place c s x t false d p = no (Line OutOfPlace x.number) t d
+  in_its_place c s x t false d p = cc
 
   placed_fits : (s : S) (x : LineFields) (t : S) (c : Option Letter) → placed in_place take_record s x c ≡ Ok t → P s → P t
-  placed_fits s x t None e p = no (Line Malformed x.number) t e
+  placed_fits s x t None e p = cc
   placed_fits s x t (Some c) e p = in_its_place c s x t (in_place c s) e p
 
   pub line_fits : (s : S) (l : ℕ) (x : TextLine) (t : S) → taken in_place take_record s l x ≡ Ok t → P s → P t
@@ -90,19 +86,19 @@ pub record ReadingFits (r : Reading) : Type 0 where
   pub rows : length r.rows ≤ 96
 
 declare_fits : (r : Reading) (l : ℕ) (o : Result LabelRow FieldFault) (t : Reading) → sources.declare r l o ≡ Ok t → ReadingFits r → ReadingFits t
-declare_fits r l (Err f) t e p = no (Field f) t e
+declare_fits r l (Err f) t e p = cc
 declare_fits r l (Ok x) t e p =
     let g = granted (ltb (length r.labels) 9) _ t _ e in
     subst ReadingFits g.1 (record { labels = omega (arith, length_push r.labels x, ltb-true _ _ g.0); rows = p.rows })
 
 source_keep_fits : (r : Reading) (l : ℕ) (o : Result Row FieldFault) (t : Reading) → sources.keep r l o ≡ Ok t → ReadingFits r → ReadingFits t
-source_keep_fits r l (Err f) t e p = no (Field f) t e
+source_keep_fits r l (Err f) t e p = cc
 source_keep_fits r l (Ok x) t e p =
     let g = granted (main_fits (r.rows ++ x ∷ [])) _ t _ e in
     subst ReadingFits g.1 (record { labels = p.labels; rows = fits_rows (r.rows ++ x ∷ []) g.0 })
 
 source_finish_fits : (r : Reading) (o : Result LabelNumber FieldFault) (t : Reading) → sources.finish r o ≡ Ok t → ReadingFits r → ReadingFits t
-source_finish_fits r (Err f) t e p = no (Field f) t e
+source_finish_fits r (Err f) t e p = cc
 source_finish_fits r (Ok x) t e p =
     let q : record r { end = Some x } ≡ t = cc in
     subst ReadingFits q (record { labels = p.labels; rows = p.rows })
@@ -116,8 +112,8 @@ source_record_fits Store r x t e p = source_keep_fits r x.number (store_row x) t
 source_record_fits Exit r x t e p = source_keep_fits r x.number (exit_row x r.labels) t e p
 source_record_fits Join r x t e p = source_keep_fits r x.number (Ok row.Join) t e p
 source_record_fits End r x t e p = source_finish_fits r (label_in x r.labels 1) t e p
-source_record_fits ExitPiece r x t e p = no (Line OutOfPlace x.number) t e
-source_record_fits JoinPiece r x t e p = no (Line OutOfPlace x.number) t e
+source_record_fits ExitPiece r x t e p = cc
+source_record_fits JoinPiece r x t e p = cc
 
 -- what a source's text says fits its places
 pub source_fits : (bs : List ℕ) (s : Source) → read_source bs ≡ Ok s → SourceFits s
@@ -158,23 +154,23 @@ add_fits s l x (Some q) t e p =
     (record { rows = p.rows; short = short_put s.pieces q x p.short (ltb-true _ _ (and_parts _ _ g.0).1); twelve = length-set s.pieces q (get_or s.pieces q [] ++ x ∷ []) ∙ p.twelve })
 
 schedule_keep_fits : (s : Scheduling) (l : ℕ) (o : Result Row FieldFault) (t : Scheduling) → schedules.keep s l o ≡ Ok t → SchedulingFits s → SchedulingFits t
-schedule_keep_fits s l (Err f) t e p = no (Field f) t e
+schedule_keep_fits s l (Err f) t e p = cc
 schedule_keep_fits s l (Ok x) t e p = add_fits s l x s.at t e p
 
 schedule_finish_fits : (s : Scheduling) (o : Result LabelNumber FieldFault) (t : Scheduling) → schedules.finish s o ≡ Ok t → SchedulingFits s → SchedulingFits t
-schedule_finish_fits s (Err f) t e p = no (Field f) t e
+schedule_finish_fits s (Err f) t e p = cc
 schedule_finish_fits s (Ok x) t e p =
     let q : record s { end = Some x } ≡ t = cc in
     subst SchedulingFits q (record { rows = p.rows; short = p.short; twelve = p.twelve })
 
 head_fits : (s : Scheduling) (l : ℕ) (o : Result ℕ FieldFault) (t : Scheduling) → schedules.head s l o ≡ Ok t → SchedulingFits s → SchedulingFits t
-head_fits s l (Err f) t e p = no (Field f) t e
+head_fits s l (Err f) t e p = cc
 head_fits s l (Ok x) t e p =
     let g = granted (schedules.rises s.at x) _ t _ e in
     subst SchedulingFits g.1 (record { rows = p.rows; short = p.short; twelve = p.twelve })
 
 schedule_record_fits : (c : Letter) (s : Scheduling) (x : LineFields) (t : Scheduling) → schedules.take_record c s x ≡ Ok t → SchedulingFits s → SchedulingFits t
-schedule_record_fits Declare s x t e p = no (Line OutOfPlace x.number) t e
+schedule_record_fits Declare s x t e p = cc
 schedule_record_fits Operate s x t e p = schedule_keep_fits s x.number (operate_row x) t e p
 schedule_record_fits Literal s x t e p = schedule_keep_fits s x.number (literal_row x) t e p
 schedule_record_fits Load s x t e p = schedule_keep_fits s x.number (load_row x) t e p

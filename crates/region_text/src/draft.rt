@@ -1,3 +1,4 @@
+// What the readers answer. Rows and labels stand in arrays, since no library uses the heap: the shelf copies them into the memory that it is lent.
 use region::{LabelRow, Row, Shape};
 
 /// A source as it was read: its labels and then unused label rows, its rows and then blank rows, and what is kept of it beside them.

@@ -94,7 +94,7 @@ impl From<FieldFault> for LineFault {
     }
 }
 
-/// Why a text is not taken: a line or a field that does not apply is 0.
+/// Why a text is not taken. A line or a field that does not apply is 0 and not `None`, since the rules have the four printed as they stand here.
 #[derive(Clone, Copy, PartialEq, Eq)]
 pub struct Refusal {
     pub fault: Fault,

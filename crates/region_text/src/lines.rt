@@ -12,6 +12,7 @@ use super::texts::{count_fields, nth_field};
 use region::{Action, Name, Row};
 
 /// The record that a letter begins.
+// Not `TryFrom<u8>`: an unknown letter has no error of its own, since it is the line that is at fault.
 fn letter_of(letter: u8) -> Option<Letter>
     ensures { result ≡ letter_at letter }
 {

@@ -8,7 +8,7 @@ ghost use Rattle.region_text.specs.Taking.{after};
 
 use super::body::{DeclaredLabels, SourceBody};
 use super::cursor::Line;
-use super::fault::{Fault, FieldFault, LineFault};
+use super::fault::{Fault, LineFault};
 use super::label::Declared;
 use super::letter::Letter;
 use super::taking::Body;
@@ -38,11 +38,11 @@ impl<'a> SourceBody<'a> {
     }
 
     /// One more row, unless a size is passed.
-    fn keep(&mut self, row: Result<Row, FieldFault>, number: usize) -> Result<(), LineFault>
-        ensures { after result (reading self.new) ≡ keeping (reading self.old) number row }
+    fn keep(&mut self, row: Row, number: usize) -> Result<(), LineFault>
+        ensures { after result (reading self.new) ≡ keeping (reading self.old) number (Ok row) }
     {
         self.rows
-            .push(row?)
+            .push(row)
             .map_err(|_| Fault::TooMany.in_line(number))
     }
 
@@ -75,21 +75,20 @@ impl<'a> Body for SourceBody<'a> {
         }
     }
 
-    // A schedule has a table of letters like this one. Each stands alone, as the definition that it follows does: seven letters mean the same
-    // in both, and a table for these apart would leave a reader with two tables to look a letter up in.
+    // The letters stand in one table here and in another for schedules, as in the definitions: what a letter means is read in one place.
     fn take_record(&mut self, letter: Letter, line: Line) -> Result<(), LineFault> {
         let number = line.number;
         match letter {
             Letter::Declare => self.declare(line),
-            Letter::Operate => self.keep(line.operate_row(), number),
-            Letter::Literal => self.keep(line.literal_row(), number),
-            Letter::Load => self.keep(line.load_row(), number),
-            Letter::Store => self.keep(line.store_row(), number),
+            Letter::Operate => self.keep(line.operate_row()?, number),
+            Letter::Literal => self.keep(line.literal_row()?, number),
+            Letter::Load => self.keep(line.load_row()?, number),
+            Letter::Store => self.keep(line.store_row()?, number),
             Letter::Exit => {
-                let row = line.exit_row(&self.labels);
+                let row = line.exit_row(&self.labels)?;
                 self.keep(row, number)
             }
-            Letter::Join => self.keep(Ok(Row::Join), number),
+            Letter::Join => self.keep(Row::Join, number),
             Letter::End => self.finish(line),
             Letter::ExitPiece | Letter::JoinPiece => Err(Fault::OutOfPlace.in_line(number)),
         }

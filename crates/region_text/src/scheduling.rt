@@ -48,10 +48,9 @@ impl<'a> ScheduleBody<'a> {
     }
 
     /// One more row, in the main line or in the piece that was headed last, unless a size is passed.
-    fn keep(&mut self, row: Result<Row, FieldFault>, number: usize) -> Result<(), LineFault>
-        ensures { after result (scheduling self.new) ≡ keeping (scheduling self.old) number row }
+    fn keep(&mut self, row: Row, number: usize) -> Result<(), LineFault>
+        ensures { after result (scheduling self.new) ≡ keeping (scheduling self.old) number (Ok row) }
     {
-        let row = row?;
         let pushed = match self.at {
             Some(piece) => self.pieces.push(piece, row),
             None => self.rows.push(row),
@@ -75,10 +74,9 @@ impl<'a> ScheduleBody<'a> {
     }
 
     /// The head of a piece, unless its number does not rise.
-    fn head(&mut self, piece: Result<usize, FieldFault>, number: usize) -> Result<(), LineFault>
-        ensures { after result (scheduling self.new) ≡ heading (scheduling self.old) number piece }
+    fn head(&mut self, piece: usize, number: usize) -> Result<(), LineFault>
+        ensures { after result (scheduling self.new) ≡ heading (scheduling self.old) number (Ok piece) }
     {
-        let piece = piece?;
         if !self.rises(piece) {
             return Err(Fault::OutOfPlace.in_line(number));
         }
@@ -115,22 +113,22 @@ impl<'a> Body for ScheduleBody<'a> {
         let number = line.number;
         match letter {
             Letter::Declare => Err(Fault::OutOfPlace.in_line(number)),
-            Letter::Operate => self.keep(line.operate_row(), number),
-            Letter::Literal => self.keep(line.literal_row(), number),
-            Letter::Load => self.keep(line.load_row(), number),
-            Letter::Store => self.keep(line.store_row(), number),
+            Letter::Operate => self.keep(line.operate_row()?, number),
+            Letter::Literal => self.keep(line.literal_row()?, number),
+            Letter::Load => self.keep(line.load_row()?, number),
+            Letter::Store => self.keep(line.store_row()?, number),
             Letter::Exit => {
-                let row = line.exit_row(&self.labels);
+                let row = line.exit_row(&self.labels)?;
                 self.keep(row, number)
             }
-            Letter::Join => self.keep(Ok(Row::Join), number),
+            Letter::Join => self.keep(Row::Join, number),
             Letter::End => self.finish(line),
             Letter::ExitPiece => {
-                let piece = line.piece(0, self.rows.exits());
+                let piece = line.piece(0, self.rows.exits())?;
                 self.head(piece, number)
             }
             Letter::JoinPiece => {
-                let piece = line.piece(EXITS as u8, self.rows.joins());
+                let piece = line.piece(EXITS as u8, self.rows.joins())?;
                 self.head(piece, number)
             }
         }
