@@ -10,7 +10,6 @@ use Rattle.region.specs.Lines.{Line, joins, assembled}
 use Rattle.region.specs.Parts.{part_of}
 use Rattle.region.proofs.Whole.{a_part}
 use Rattle.validator.specs.declared.term_row.TermRow.{TermRow}
-use Rattle.validator.specs.declared.terms.Terms.{Terms}
 use Rattle.validator.specs.declared.verdict.Mismatch.{Mismatch}
 use Rattle.validator.specs.declared.verdict.Reason.TheVariants as reason
 use Rattle.validator.specs.declared.verdict.Verdict.{Verdict}
@@ -23,17 +22,11 @@ use Rattle.validator.specs.Compared.{compared}
 use Rattle.validator.specs.Live.{live_in}
 use Rattle.validator.specs.Tidy.{Tidy, Kept}
 use Rattle.validator.specs.Means.{Means, Begun, ConditionMeans, StopMeans, Stopped, Onward, behind}
-use Rattle.validator.specs.Held.{held}
 use Rattle.validator.specs.Walkers.{entry_differs}
 use Rattle.validator.specs.Numbers.{live_mask, conditions_differ, numbers_differ}
-use Rattle.validator.proofs.Interning.{used_length}
 use Rattle.validator.proofs.Steps.{means_kept}
 use Rattle.validator.proofs.Lowest.{first_below_none, first_below_at}
 use Rattle.validator.proofs.Matching.{differ_match}
-
--- there are at most 512 terms
-pub held_few : (t : Terms) → length (held t) ≤ 512
-held_few t = omega (arith, used_length t.table, t.table.inside, t.room)
 
 -- where conditions do not differ, both walks go on or both are at an end
 both_more : (e n i : ℕ) (b : Option ℕ) (rest : Option Mismatch) → (conditions_differ e n (Some i) b or_else rest) ≡ None → (j : ℕ) × (b ≡ Some j)

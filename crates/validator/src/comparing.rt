@@ -1,7 +1,6 @@
 // The comparison of a schedule with its source.
 ghost use Rattle.std.specs.Prelude.{◌≡◌, ◌+◌, ◌≤◌, length};
 ghost use Rattle.region.specs.Kept.{kept};
-ghost use Rattle.validator.specs.Held.{held};
 ghost use Rattle.validator.specs.Walks.{basis};
 ghost use Rattle.validator.specs.Comparison.{mismatch as mismatch_of};
 ghost use Rattle.validator.specs.Live.{live_in};
@@ -40,8 +39,8 @@ impl Pair<'_> {
         mut schedule: Walker,
         entry: u8,
     ) -> Option<Mismatch>
-        requires room { terms.old.table.len + left source + left schedule ≤ 512 }
-        ensures { DiffersFirst D.meaning self.now.labels.now entry (held terms.old) source.entry schedule.entry result }
+        requires room { length terms.old + left source + left schedule ≤ 512 }
+        ensures { DiffersFirst D.meaning self.now.labels.now entry terms.old source.entry schedule.entry result }
     {
         for stop in 1..=MOST_STOPS {
             let x = source.next_stop::<D>(terms);
@@ -75,7 +74,7 @@ impl Pair<'_> {
         if self.schedule.shape.joins() != joins {
             return Some(At { from: 0, stop: 0 }.mismatch(Reason::Joins, 0));
         }
-        // No `find_map`: its contract does not say that None comes last where the closure writes, as here to the rows.
+        // No `find_map`: its contract leaves open that it asked all entries where the closure writes, as here to the rows.
         for entry in 0..=joins as u8 {
             let mismatch = self.differ_from::<D>(rows, entry);
             if mismatch.is_some() {
