@@ -19,7 +19,7 @@ use super::walking::Walker;
 use domain::Domain;
 use region::{LabelRow, Part, REGION_LABELS, Row, Shape, Side};
 
-// The stops of a line of 96 main rows that are all exits.
+// No walk has more stops: one at each of 96 main rows, and the end.
 const MOST_STOPS: u8 = 97;
 
 // A source and its schedule, with the labels that both lead to.

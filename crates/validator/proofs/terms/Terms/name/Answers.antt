@@ -1,4 +1,4 @@
-use Rattle.std.proofs.Common.{◌≡◌, ℕ, ◌∙◌, subst, arith}
+use Rattle.std.proofs.Common.{◌≡◌, ℕ, subst, arith}
 use Rattle.std.proofs.lemmas.List.{length-set}
 use Rattle.validator.specs.Means.{Named}
 use Rattle.validator.proofs.Entering.{named_more}
@@ -9,7 +9,7 @@ loop-i-preserved g c =
     let before = c.loop-i.invariant in
     record {
       few = omega arith;
-      long = length-set _ _ _ ∙ before.long;
+      long = simp length-set before.long;
       named = λ d f says t.
           let p = before.named d f says t in
           named_more d _ _ _ _ f _ _ (omega (arith, before.long)) p (c.intern.ensures.interned d _ p.grown.tidy (says _ _ _ c.row.ensures));
