@@ -65,7 +65,7 @@ module _ {W : Type 0} (m : Meaning W) (labels : List LabelRow) where
   }
 
   -- one round
-  module _ (xs ys zs : List TermRow) (w v w' v' : Walk) (f g f' g' : Symbols → List Stop) (e n : ℕ) (goal : Option Mismatch) (x y : Reached)
+  module _ {xs ys zs : List TermRow} {w v w' v' : Walk} {f g f' g' : Symbols → List Stop} {e n : ℕ} {goal : Option Mismatch} {x y : Reached}
       (now : Going xs w v f g e n goal)
       (at_x : (s : Symbols) → Tidy m.commutes xs → Means m.commutes xs w s → Stopped m.commutes xs ys x w' f' (f s))
       (at_y : (s : Symbols) → Tidy m.commutes ys → Means m.commutes ys v s → Stopped m.commutes ys zs y v' g' (g s))
@@ -96,22 +96,22 @@ module _ {W : Type 0} (m : Meaning W) (labels : List LabelRow) where
         }
 
     -- where the stops differ, or are the last, this is what was asked
-    pub mismatched : (r : Option Mismatch) → r ≡ numbers_differ e n (live_mask labels x.label) x y → is_some r ≡ true → r ≡ goal
-    mismatched None o h = absurd (false≢true h)
-    mismatched (Some d) o h =
+    pub mismatched : {r : Option Mismatch} → r ≡ numbers_differ e n (live_mask labels x.label) x y → is_some r ≡ true → r ≡ goal
+    mismatched {r = None} o h = absurd (false≢true h)
+    mismatched {r = Some d} o h =
         let t = turned in
         ap (λ (o : Option Mismatch). o or_else stops_differ (basis m (live_in labels)) e (suc n) (behind x.condition (f' t.a)) (behind y.condition (g' t.b))) o ∙ t.so_far
 
-    module _ (r : Option Mismatch) (r_is : r ≡ numbers_differ e n (live_mask labels x.label) x y) (alike : is_some r ≡ false) where
+    module _ {r : Option Mismatch} (r_is : r ≡ numbers_differ e n (live_mask labels x.label) x y) (alike : is_some r ≡ false) where
       matched : (None ≡ numbers_differ e n (live_mask labels x.label) x y)
           × (stops_differ (basis m (live_in labels)) e (suc n) (behind x.condition (f' turned.a)) (behind y.condition (g' turned.b)) ≡ goal)
       matched =
-          let o = sym (from_is_none r alike) ∙ r_is in
+          let o = sym (from_is_none _ alike) ∙ r_is in
           (o, ap (λ (o : Option Mismatch). o or_else stops_differ (basis m (live_in labels)) e (suc n) (behind x.condition (f' turned.a)) (behind y.condition (g' turned.b))) o ∙ turned.so_far)
 
       pub ended : is_some x.condition ≡ false → r ≡ goal
       ended h =
-          from_is_none r alike
+          from_is_none _ alike
           ∙ ap (λ (k : Option ℕ). stops_differ (basis m (live_in labels)) e (suc n) (behind k (f' turned.a)) (behind y.condition (g' turned.b))) (sym (from_is_none x.condition h))
           ∙ matched.1
 
@@ -134,12 +134,12 @@ module _ {W : Type 0} (m : Meaning W) (labels : List LabelRow) where
           }
 
   -- the two walks from an entry
-  pub from_entry : (xs ys zs : List TermRow) (st w v : Walk) (f g : Symbols → List Stop) (ss ts : List Stop) (e : ℕ) (r : Option Mismatch) → Begun m.commutes xs st
+  pub from_entry : {xs ys zs : List TermRow} {st w v : Walk} {f g : Symbols → List Stop} {ss ts : List Stop} (e : ℕ) {r : Option Mismatch} → Begun m.commutes xs st
       → (Tidy m.commutes xs → Means m.commutes xs st at_entry → Onward m.commutes xs ys w f ss)
       → (Tidy m.commutes ys → Means m.commutes ys st at_entry → Onward m.commutes ys zs v g ts)
       → ((s t : Symbols) → Tidy m.commutes zs → Means m.commutes zs w s → Means m.commutes zs v t → r ≡ stops_differ (basis m (live_in labels)) e 1 (f s) (g t))
       → r ≡ stops_differ (basis m (live_in labels)) e 1 ss ts
-  from_entry xs ys zs st w v f g ss ts e r begun at_a at_b h =
+  from_entry {xs = xs} {ys = ys} {zs = zs} {st = st} {w = w} {v = v} {f = f} {g = g} {ss = ss} {ts = ts} e {r = r} begun at_a at_b h =
       let p = at_a begun.tidy begun.means in
       let q = at_b p.follows.grown.tidy (means_kept m.commutes xs ys p.follows.grown.kept st at_entry begun.means) in
       h p.symbols q.symbols q.follows.grown.tidy (means_kept m.commutes ys zs q.follows.grown.kept w p.symbols p.follows.means) q.follows.means
