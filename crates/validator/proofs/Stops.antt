@@ -25,9 +25,9 @@ goes_on c xs None t stops p = absurd p
 goes_on c xs (Some n) t stops p = refl
 
 -- the stop at an exit
-pub leaves : {W : Type 0} (m : Meaning W) (xs ys : List TermRow) (w v : Walk) (t : Register) (l : LabelNumber) (piece : List Row) (j : ℕ) → j ≡ t.index
+pub leaves : {W : Type 0} (m : Meaning W) {xs ys : List TermRow} {w v : Walk} (t : Register) (l : LabelNumber) (piece : List Row) (j : ℕ) → j ≡ t.index
     → Does m xs w ys v (λ β. follow_all β (actions piece)) → Leaves m xs w t l piece ys (record { condition = Some (get_or w.registers j 0); label = l; walk = v })
-leaves m xs ys w v t l piece j j-is p live s tidy h =
+leaves m {xs = xs} {ys = ys} {w = w} {v = v} t l piece j j-is p live s tidy h =
     let f = p live s tidy h in
     (f.grown, record { condition = rw j-is (f.grown.kept _ _ (h.register t.index t.fits)); label = refl; walk = f.means })
 
