@@ -12,7 +12,7 @@ loop-i-preserved g c =
       long = simp length-set before.long;
       named = λ d f says t.
           let p = before.named d f says t in
-          named_more d _ _ _ _ f _ _ (omega (arith, before.long)) p (c.intern.ensures.interned d _ p.grown.tidy (says _ _ _ c.row.ensures));
+          named_more d _ f _ _ (omega (arith, before.long)) p (c.intern.ensures.interned d _ p.grown.tidy (says _ _ _ c.row.ensures));
     }
 
 pub returns-clause-named : goal.returns-clause-named
