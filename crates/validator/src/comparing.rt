@@ -8,7 +8,6 @@ ghost use Rattle.validator.specs.Compared.{compared};
 ghost use Rattle.validator.specs.Walkers.{left, line_of, entry_differs, DiffersFirst};
 
 use super::at::At;
-use super::differing::differ;
 use super::line_rows::LineRows;
 use super::term_row::TermRow;
 use super::terms::{TERM_ROWS, Terms};
@@ -45,7 +44,7 @@ impl Pair<'_> {
         for stop in 1..=MOST_STOPS {
             let x = source.next_stop::<D>(terms);
             let y = schedule.next_stop::<D>(terms);
-            let mismatch = differ(&x, &y, self.labels, At { from: entry, stop });
+            let mismatch = At { from: entry, stop }.differ(&x, &y, self.labels);
             if mismatch.is_some() || x.condition.is_none() {
                 return mismatch;
             }
