@@ -60,6 +60,7 @@ impl<'a> Walker<'a> {
         ensures onward { is_some result.condition ≡ true → length self.new.ahead.now < length self.old.ahead.now }
         ensures stopped { ComesTo D.meaning terms.old self.old terms.new self.new result }
     {
+        // No `for`: the walk stops among the rows, and goes on behind that stop at the next call.
         while let Some((row, rest)) = self.ahead.split_first() {
             self.ahead = rest;
             match *row {
