@@ -22,17 +22,17 @@ use Rattle.validator.specs.Means.{Marked, none, Means, Named, Begun, Liveness, D
 use Rattle.validator.proofs.Interning.{tidy_none, kept_all, grown_then}
 
 module _ (c : Op → Bool) where
-  pub named_more : (xs ys zs : List TermRow) (ns : List ℕ) (f : ℕ → Term) (i n : ℕ) → i < length ns → Named c xs ys ns f i → Interned c ys zs n (f i)
+  pub named_more : {xs ys zs : List TermRow} (ns : List ℕ) (f : ℕ → Term) (i n : ℕ) → i < length ns → Named c xs ys ns f i → Interned c ys zs n (f i)
       → Named c xs zs (set ns i n) f (i + 1)
-  named_more xs ys zs ns f i n l p q = record { grown = grown_then c xs ys zs p.grown q.grown; names = λ j m. go j m (cases_lt j i) }
+  named_more {xs = xs} {ys = ys} {zs = zs} ns f i n l p q = record { grown = grown_then c xs ys zs p.grown q.grown; names = λ j m. go j m (cases_lt j i) }
     where
       go : (j : ℕ) → j < i + 1 → (j < i) ⊎ (i ≤ j) → Names c zs (get_or (set ns i n) j 0) (f j)
       go j m (inl a) = let ne : j ≢ i = omega arith in rw (get_or-set_other ns i j n 0 ne) (q.grown.kept _ _ (p.names j a))
       go j m (inr a) = let e : j ≡ i = omega arith in rw (e, get_or-set_same ns i n 0 l) q.named
 
-  pub begun : (xs ys zs : List TermRow) (w : Walk) → xs ≡ [] → length w.registers ≡ 16 → length w.banks ≡ 4 → w.traps ≡ replicate 512 false
+  pub begun : {xs ys zs : List TermRow} (w : Walk) → xs ≡ [] → length w.registers ≡ 16 → length w.banks ≡ 4 → w.traps ≡ replicate 512 false
       → (Tidy c xs → Named c xs ys w.registers register_at_entry 16) → (Tidy c ys → Named c ys zs w.banks bank_at_entry 4) → Begun c zs w
-  begun xs ys zs w e lr lb t f g =
+  begun {xs = xs} {ys = ys} {zs = zs} w e lr lb t f g =
       let a = f (subst (Tidy c) (sym e) (tidy_none c)) in
       let b = g a.grown.tidy in
       record {
@@ -87,9 +87,9 @@ joins_of part sh k j (suc n) (Join ∷ rs) = ap suc (joins_of part sh k (suc j) 
 pub joins_kept : (side : Side) (part : List Row) (sh : Kept) → joins (assembled side part sh).places ≡ sh.joins
 joins_kept side part sh = joins_of part sh 0 0 sh.joins (main_rows side part sh)
 
-module _ {W : Type 0} (m : Meaning W) (live : Liveness) (side : Side) (part : List Row) (sh : Kept) (e : ℕ) (xs : List TermRow) (w : Walk)
+module _ {W : Type 0} (m : Meaning W) (live : Liveness) (side : Side) (part : List Row) (sh : Kept) (e : ℕ) {xs : List TermRow} {w : Walk}
     (tidy : Tidy m.commutes xs) (means : Means m.commutes xs w at_entry) where
-  module _ (main : List Row) (main_is : main ≡ main_rows side part sh) where
+  module _ {main : List Row} (main_is : main ≡ main_rows side part sh) where
     pub enter_top : e ≡ 0 → Onward m.commutes xs xs w (walk_rows (basis m live) part sh 0 main) (walk (basis m live) (assembled side part sh) e)
     enter_top z = record {
       symbols = at_entry;
@@ -100,10 +100,10 @@ module _ {W : Type 0} (m : Meaning W) (live : Liveness) (side : Side) (part : Li
           ∙ ap (walk (basis m live) (assembled side part sh)) (sym z);
     }
 
-    pub enter_join : (j place exits : ℕ) (piece rest : List Row) (ys : List TermRow) (v : Walk) → e ≡ suc j → rest ≡ drop place main → Enters part sh j sh.joins main place exits
+    pub enter_join : (j place exits : ℕ) {piece rest : List Row} {ys : List TermRow} {v : Walk} → e ≡ suc j → rest ≡ drop place main → Enters part sh j sh.joins main place exits
         → piece ≡ join_rows part sh j → Does m xs w ys v (λ β. follow_all β (actions piece))
         → Onward m.commutes xs ys v (walk_rows (basis m live) part sh exits rest) (walk (basis m live) (assembled side part sh) e)
-    enter_join j place exits piece rest ys v z rest_is h piece_is does = record {
+    enter_join j place exits {piece = piece} {rest = rest} {ys = ys} {v = v} z rest_is h piece_is does = record {
       symbols = follow_all (basis m live) (actions piece) at_entry;
       follows = does live at_entry tidy means;
       ahead_are =

@@ -19,8 +19,7 @@ use Rattle.validator.specs.Terms.{Same, same_register, same_bank, same_literal, 
 use Rattle.validator.specs.TermRows.{ordered, row_equals, row_term, denoted, MarkedRight}
 use Rattle.validator.specs.Tidy.{Tidy, Names, Grown, Says, Interned}
 use Rattle.validator.proofs.Same.{same_refl, same_sym, same_trans, test_so_same, same_so_test}
-use Rattle.validator.specs.declared.terms.Terms.{Terms}
-use Rattle.validator.specs.Held.{held}
+use Rattle.numbering.specs.declared.kind.Kind.{Ghosts}
 use Rattle.validator.specs.Equal.{equal_decides, equivalence}
 use Rattle.validator.proofs.Unique.{unique}
 use Rattle.validator.proofs.Grown.{grown, stays, newest, at_row}
@@ -29,17 +28,14 @@ use Rattle.validator.proofs.Grown.{grown, stays, newest, at_row}
 pub used_length : {kind : Ghosts TermRow} (t : Table TermRow kind) → length (used t) ≡ t.len
 used_length t = length-take-le t.len t.rows.now t.inside
 
--- a term's number is below 512
-pub number_inside : (t : Terms) (r : TermRow) (o : Option ℕ) (n : ℕ) → o ≡ numbered row_equals (capacity t.table) (held t) r → o ≡ Some n → n < 512
+-- numbering answers the number of a row in the table
+pub number_inside : {kind : Ghosts TermRow} (t : Table TermRow kind) (r : TermRow) (o : Option ℕ) (n : ℕ) → o ≡ numbered row_equals (capacity t) (used t) r → o ≡ Some n → n < capacity t
 number_inside t r o n p q =
-    let inside : n < capacity t.table =
-    by_ways row_equals (capacity t.table) (held t) r (λ a after. a ≡ Some n → n < capacity t.table)
-    (λ i f g. let i_is : i ≡ n = cc in omega (arith, (found_is row_equals r (held t) i r f).0, used_length t.table, t.table.inside))
-    (λ f l g. let n_is : length (held t) ≡ n = cc in omega arith)
+    by_ways row_equals (capacity t) (used t) r (λ a after. a ≡ Some n → n < capacity t)
+    (λ i f g. let i_is : i ≡ n = cc in omega (arith, (found_is row_equals r (used t) i r f).0, used_length t, t.inside))
+    (λ f l g. let n_is : length (used t) ≡ n = cc in omega arith)
     (λ f l g. none_is_some n g)
     (sym p ∙ q)
-    in
-    omega (arith, t.room)
 
 module _ (c : Op → Bool) (term : ℕ → Term) where
   in_order : (o : Op) (a b : ℕ) → c o ≡ true → Same c (operate o (term a) (term b)) (operate o (term (min a b)) (term (max a b)))

@@ -10,7 +10,6 @@ use Rattle.region.specs.Lines.{Line, joins, assembled}
 use Rattle.region.specs.Parts.{part_of}
 use Rattle.region.proofs.Whole.{a_part}
 use Rattle.validator.specs.declared.term_row.TermRow.{TermRow}
-use Rattle.validator.specs.declared.terms.Terms.{Terms}
 use Rattle.validator.specs.declared.verdict.Mismatch.{Mismatch}
 use Rattle.validator.specs.declared.verdict.Reason.TheVariants as reason
 use Rattle.validator.specs.declared.verdict.Verdict.{Verdict}
@@ -23,17 +22,11 @@ use Rattle.validator.specs.Compared.{compared}
 use Rattle.validator.specs.Live.{live_in}
 use Rattle.validator.specs.Tidy.{Tidy, Kept}
 use Rattle.validator.specs.Means.{Means, Begun, ConditionMeans, StopMeans, Stopped, Onward, behind}
-use Rattle.validator.specs.Held.{held}
 use Rattle.validator.specs.Walkers.{entry_differs}
 use Rattle.validator.specs.Numbers.{live_mask, conditions_differ, numbers_differ}
-use Rattle.validator.proofs.Interning.{used_length}
 use Rattle.validator.proofs.Steps.{means_kept}
 use Rattle.validator.proofs.Lowest.{first_below_none, first_below_at}
 use Rattle.validator.proofs.Matching.{differ_match}
-
--- there are at most 512 terms
-pub held_few : (t : Terms) → length (held t) ≤ 512
-held_few t = omega (arith, used_length t.table, t.table.inside, t.room)
 
 -- where conditions do not differ, both walks go on or both are at an end
 both_more : (e n i : ℕ) (b : Option ℕ) (rest : Option Mismatch) → (conditions_differ e n (Some i) b or_else rest) ≡ None → (j : ℕ) × (b ≡ Some j)
@@ -72,7 +65,7 @@ module _ {W : Type 0} (m : Meaning W) (labels : List LabelRow) where
   }
 
   -- one round
-  module _ (xs ys zs : List TermRow) (w v w' v' : Walk) (f g f' g' : Symbols → List Stop) (e n : ℕ) (goal : Option Mismatch) (x y : Reached)
+  module _ {xs ys zs : List TermRow} {w v w' v' : Walk} {f g f' g' : Symbols → List Stop} {e n : ℕ} {goal : Option Mismatch} {x y : Reached}
       (now : Going xs w v f g e n goal)
       (at_x : (s : Symbols) → Tidy m.commutes xs → Means m.commutes xs w s → Stopped m.commutes xs ys x w' f' (f s))
       (at_y : (s : Symbols) → Tidy m.commutes ys → Means m.commutes ys v s → Stopped m.commutes ys zs y v' g' (g s))
@@ -103,22 +96,22 @@ module _ {W : Type 0} (m : Meaning W) (labels : List LabelRow) where
         }
 
     -- where the stops differ, or are the last, this is what was asked
-    pub mismatched : (r : Option Mismatch) → r ≡ numbers_differ e n (live_mask labels x.label) x y → is_some r ≡ true → r ≡ goal
-    mismatched None o h = absurd (false≢true h)
-    mismatched (Some d) o h =
+    pub mismatched : {r : Option Mismatch} → r ≡ numbers_differ e n (live_mask labels x.label) x y → is_some r ≡ true → r ≡ goal
+    mismatched {r = None} o h = absurd (false≢true h)
+    mismatched {r = Some d} o h =
         let t = turned in
         ap (λ (o : Option Mismatch). o or_else stops_differ (basis m (live_in labels)) e (suc n) (behind x.condition (f' t.a)) (behind y.condition (g' t.b))) o ∙ t.so_far
 
-    module _ (r : Option Mismatch) (r_is : r ≡ numbers_differ e n (live_mask labels x.label) x y) (alike : is_some r ≡ false) where
+    module _ {r : Option Mismatch} (r_is : r ≡ numbers_differ e n (live_mask labels x.label) x y) (alike : is_some r ≡ false) where
       matched : (None ≡ numbers_differ e n (live_mask labels x.label) x y)
           × (stops_differ (basis m (live_in labels)) e (suc n) (behind x.condition (f' turned.a)) (behind y.condition (g' turned.b)) ≡ goal)
       matched =
-          let o = sym (from_is_none r alike) ∙ r_is in
+          let o = sym (from_is_none _ alike) ∙ r_is in
           (o, ap (λ (o : Option Mismatch). o or_else stops_differ (basis m (live_in labels)) e (suc n) (behind x.condition (f' turned.a)) (behind y.condition (g' turned.b))) o ∙ turned.so_far)
 
       pub ended : is_some x.condition ≡ false → r ≡ goal
       ended h =
-          from_is_none r alike
+          from_is_none _ alike
           ∙ ap (λ (k : Option ℕ). stops_differ (basis m (live_in labels)) e (suc n) (behind k (f' turned.a)) (behind y.condition (g' turned.b))) (sym (from_is_none x.condition h))
           ∙ matched.1
 
@@ -141,12 +134,12 @@ module _ {W : Type 0} (m : Meaning W) (labels : List LabelRow) where
           }
 
   -- the two walks from an entry
-  pub from_entry : (xs ys zs : List TermRow) (st w v : Walk) (f g : Symbols → List Stop) (ss ts : List Stop) (e : ℕ) (r : Option Mismatch) → Begun m.commutes xs st
+  pub from_entry : {xs ys zs : List TermRow} {st w v : Walk} {f g : Symbols → List Stop} {ss ts : List Stop} (e : ℕ) {r : Option Mismatch} → Begun m.commutes xs st
       → (Tidy m.commutes xs → Means m.commutes xs st at_entry → Onward m.commutes xs ys w f ss)
       → (Tidy m.commutes ys → Means m.commutes ys st at_entry → Onward m.commutes ys zs v g ts)
       → ((s t : Symbols) → Tidy m.commutes zs → Means m.commutes zs w s → Means m.commutes zs v t → r ≡ stops_differ (basis m (live_in labels)) e 1 (f s) (g t))
       → r ≡ stops_differ (basis m (live_in labels)) e 1 ss ts
-  from_entry xs ys zs st w v f g ss ts e r begun at_a at_b h =
+  from_entry {xs = xs} {ys = ys} {zs = zs} {st = st} {w = w} {v = v} {f = f} {g = g} {ss = ss} {ts = ts} e {r = r} begun at_a at_b h =
       let p = at_a begun.tidy begun.means in
       let q = at_b p.follows.grown.tidy (means_kept m.commutes xs ys p.follows.grown.kept st at_entry begun.means) in
       h p.symbols q.symbols q.follows.grown.tidy (means_kept m.commutes ys zs q.follows.grown.kept w p.symbols p.follows.means) q.follows.means

@@ -96,9 +96,9 @@ module _ (β : Basis) (xs : List TermRow) (w : Walk) (s : Symbols) (n : ℕ) (m 
 
 module _ {W : Type 0} (m : Meaning W) where
   -- an action is done where its term's row was numbered and its number put in
-  pub acted : (xs ys : List TermRow) (w v : Walk) (a : Action) (r : TermRow) (n : ℕ) → r ≡ action_row m.commutes w a → ((live : Liveness) → v ≡ put (basis m live) a n w)
+  pub acted : {xs ys : List TermRow} {w v : Walk} (a : Action) (r : TermRow) (n : ℕ) → r ≡ action_row m.commutes w a → ((live : Liveness) → v ≡ put (basis m live) a n w)
       → ((c : Op → Bool) (t : Term) → Tidy c xs → Says c xs r t → Interned c xs ys n t) → Does m xs w ys v (λ β. follow β a)
-  acted xs ys w v a r n p q put_in live s tidy h =
+  acted {xs = xs} {ys = ys} {w = w} {v = v} a r n p q put_in live s tidy h =
       let i = put_in m.commutes (term a s) tidy (rw p (says m.commutes xs w s a h)) in
       record {
         grown = i.grown;
@@ -123,7 +123,7 @@ module _ {W : Type 0} (m : Meaning W) where
   follow_push β (Join ∷ rs) r s = follow_push β rs r s
 
   -- one more row of a piece
-  module _ (rows : List Row) (i : ℕ) (x : Row) (l : i < length rows) (at : x ≡ get_or rows i x) (xs ys zs : List TermRow) (w v u : Walk)
+  module _ (rows : List Row) (i : ℕ) (x : Row) (l : i < length rows) (at : x ≡ get_or rows i x) {xs ys zs : List TermRow} {w v u : Walk}
       (before : Does m xs w ys v (λ β. follow_all β (actions (take i rows)))) where
     one_more : Does m ys v zs u (λ β. row_follow β x) → Does m xs w zs u (λ β. follow_all β (actions (take (i + 1) rows)))
     one_more p live s tidy h =
@@ -134,9 +134,9 @@ module _ {W : Type 0} (m : Meaning W) where
         subst (Follows m.commutes xs zs u) (follow_push β (take i rows) x s ∙ ap (λ (rs : List Row). follow_all β (actions rs) s) (sym e))
         (record { grown = grown_then m.commutes xs ys zs a.grown b.grown; means = b.means })
 
-    pub one_action : (a : Action) (zs' : List TermRow) (u' : Walk) → x ≡ Act a → zs ≡ zs' → u ≡ u' → Does m ys v zs' u' (λ β. follow β a)
+    pub one_action : (a : Action) {zs' : List TermRow} {u' : Walk} → x ≡ Act a → zs ≡ zs' → u ≡ u' → Does m ys v zs' u' (λ β. follow β a)
         → Does m xs w zs u (λ β. follow_all β (actions (take (i + 1) rows)))
-    one_action a zs' u' e y z p = one_more (rw (e, y, z) p)
+    one_action a {zs' = zs'} {u' = u'} e y z p = one_more (rw (e, y, z) p)
 
     pub passed_over : ((a : Action) → x ≡ Act a → ⊥) → zs ≡ ys → u ≡ v → Does m xs w zs u (λ β. follow_all β (actions (take (i + 1) rows)))
     passed_over not p q = one_more (go x not)
@@ -146,6 +146,6 @@ module _ {W : Type 0} (m : Meaning W) where
         go (Exit t k) n = rw (p, q) (does_nothing ys v)
         go Join n = rw (p, q) (does_nothing ys v)
 
-  pub all_rows : (rows : List Row) (i : ℕ) (xs ys : List TermRow) (w v : Walk) → length rows ≤ i
+  pub all_rows : (rows : List Row) (i : ℕ) {xs ys : List TermRow} {w v : Walk} → length rows ≤ i
       → Does m xs w ys v (λ β. follow_all β (actions (take i rows))) → Does m xs w ys v (λ β. follow_all β (actions rows))
-  all_rows rows i xs ys w v l p = subst (λ (rs : List Row). Does m xs w ys v (λ β. follow_all β (actions rs))) (take_all i rows l) p
+  all_rows rows i {xs = xs} {ys = ys} {w = w} {v = v} l p = subst (λ (rs : List Row). Does m xs w ys v (λ β. follow_all β (actions rs))) (take_all i rows l) p

@@ -1,6 +1,5 @@
 -- A walk over main rows, row by row.
-use Rattle.std.proofs.Common.{◌≡◌, ℕ, ◌+◌, Bool, List, ◌∷◌, length, get_or, Some, None, Option, sym, refl, ap, ◌∙◌}
-use Rattle.std.proofs.lemmas.List.{nil_from_length}
+use Rattle.std.proofs.Common.{◌≡◌, ℕ, ◌+◌, Bool, List, [], ◌∷◌, get_or, Some, None, Option, sym, refl, ap, ◌∙◌}
 use Rattle.domain.specs.declared.op.Op.{Op}
 use Rattle.domain.specs.Meaning.{Meaning}
 use Rattle.region.specs.Numbers.{LabelNumber, Register}
@@ -26,9 +25,9 @@ goes_on c xs None t stops p = absurd p
 goes_on c xs (Some n) t stops p = refl
 
 -- the stop at an exit
-pub leaves : {W : Type 0} (m : Meaning W) (xs ys : List TermRow) (w v : Walk) (t : Register) (l : LabelNumber) (piece : List Row) (j : ℕ) → j ≡ t.index
+pub leaves : {W : Type 0} (m : Meaning W) {xs ys : List TermRow} {w v : Walk} (t : Register) (l : LabelNumber) (piece : List Row) (j : ℕ) → j ≡ t.index
     → Does m xs w ys v (λ β. follow_all β (actions piece)) → Leaves m xs w t l piece ys (record { condition = Some (get_or w.registers j 0); label = l; walk = v })
-leaves m xs ys w v t l piece j j-is p live s tidy h =
+leaves m {xs = xs} {ys = ys} {w = w} {v = v} t l piece j j-is p live s tidy h =
     let f = p live s tidy h in
     (f.grown, record { condition = rw j-is (f.grown.kept _ _ (h.register t.index t.fits)); label = refl; walk = f.means })
 
@@ -37,17 +36,17 @@ module _ {W : Type 0} (m : Meaning W) (live : Liveness) (part : List Row) (sh : 
   abbrev stops_of : List Row → Symbols → List Stop
   stops_of rows = walk_rows (basis m live) part sh k rows
 
-  module _ (xs ys : List TermRow) (w : Walk) (stops : List Stop) (rows : List Row)
+  module _ {xs ys : List TermRow} {w : Walk} {stops : List Stop} {rows : List Row}
       (on : Onward m.commutes xs ys w (walk_rows (basis m live) part sh k rows) stops) where
-    module _ (r : Row) (rest : List Row) (rows_are : rows ≡ r ∷ rest) where
+    module _ {r : Row} {rest : List Row} (rows_are : rows ≡ r ∷ rest) where
       -- what is ahead, at the row x
       at_row : (x : Row) → r ≡ x → walk_rows (basis m live) part sh k (x ∷ rest) on.symbols ≡ stops
       at_row x e = ap (λ rs. stops_of rs on.symbols) (sym (rows_are ∙ ap (λ y. y ∷ rest) e)) ∙ on.ahead_are
 
-      pub past_action : (a : Action) (zs : List TermRow) (v : Walk) → r ≡ Act a → Does m ys w zs v (λ β. follow β a)
+      pub past_action : (a : Action) {zs : List TermRow} {v : Walk} → r ≡ Act a → Does m ys w zs v (λ β. follow β a)
           → Onward m.commutes xs zs v (walk_rows (basis m live) part sh k rest) stops
       unfolding walk_rows
-      past_action a zs v e p =
+      past_action a {zs = zs} {v = v} e p =
           let f = p live on.symbols on.follows.grown.tidy on.follows.means in
           record {
             symbols = follow (basis m live) a on.symbols;
@@ -59,11 +58,11 @@ module _ {W : Type 0} (m : Meaning W) (live : Liveness) (part : List Row) (sh : 
       unfolding walk_rows
       past_join e = record { symbols = on.symbols; follows = on.follows; ahead_are = at_row Join e }
 
-      pub at_exit : (t : Register) (l : LabelNumber) (piece : List Row) (zs : List TermRow) (x : Reached) → r ≡ Exit t l
+      pub at_exit : (t : Register) (l : LabelNumber) {piece : List Row} {zs : List TermRow} {x : Reached} → r ≡ Exit t l
           → piece ≡ exit_rows part sh k → Leaves m ys w t l piece zs x
           → Stopped m.commutes xs zs x w (walk_rows (basis m live) part sh (k + 1) rest) stops
       unfolding walk_rows
-      at_exit t l piece zs x e piece_is p =
+      at_exit t l {piece = piece} {zs = zs} {x = x} e piece_is p =
           let s = on.symbols in
           let f = p live s on.follows.grown.tidy on.follows.means in
           let stop : Stop = record { condition = Some (s.register t.index); label = l; symbols = follow_all (basis m live) (actions piece) s } in
@@ -77,7 +76,7 @@ module _ {W : Type 0} (m : Meaning W) (live : Liveness) (part : List Row) (sh : 
             stops_are = here ∙ ap (λ ss. stop ∷ ss) (goes_on m.commutes zs x.condition (s.register t.index) (walk_rows (basis m live) part sh (k + 1) rest s) f.1.condition);
           }
 
-    pub at_end : (l : LabelNumber) (then : Symbols → List Stop) → l ≡ sh.end → length rows ≡ 0
+    pub at_end : (l : LabelNumber) (then : Symbols → List Stop) → l ≡ sh.end → rows ≡ []
         → Stopped m.commutes xs ys (record { condition = None; label = l; walk = w }) w then stops
     unfolding walk_rows
     at_end l then e none = record {
@@ -86,5 +85,5 @@ module _ {W : Type 0} (m : Meaning W) (live : Liveness) (part : List Row) (sh : 
       stop_means = record { condition = tt; label = e; walk = on.follows.means };
       symbols = on.symbols;
       means = on.follows.means;
-      stops_are = sym on.ahead_are ∙ ap (λ rs. stops_of rs on.symbols) (nil_from_length rows none);
+      stops_are = sym on.ahead_are ∙ ap (λ rs. stops_of rs on.symbols) none;
     }

@@ -9,6 +9,5 @@ pub mod Equal
 pub mod Tidy
 pub mod Straight
 pub mod Means
-pub mod Held
 pub mod Walkers
 pub mod Numbers

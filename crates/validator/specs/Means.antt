@@ -13,7 +13,7 @@ use Rattle.validator.specs.declared.walk.Walk.{Walk}
 use Rattle.validator.specs.declared.walk.Reached.{Reached}
 use Rattle.validator.specs.Terms.{Term}
 use Rattle.validator.specs.Walks.{Basis, basis, Symbols, Stop, at_entry, may_trap_at, follow_all}
-use Rattle.validator.specs.Tidy.{Tidy, Names, Grown}
+use Rattle.validator.specs.Tidy.{Tidy, Names, Says, Grown}
 
 module _ (commutes : Op → Bool) where
   -- a set of numbers, as marks, for a list of terms
@@ -33,6 +33,10 @@ module _ (commutes : Op → Bool) where
   pub record Follows (xs ys : List TermRow) (w : Walk) (s : Symbols) : Type 0 where
     pub grown : Grown commutes xs ys
     pub means : Means ys w s
+
+  -- each row that is made for a place says what f gives there, over whatever table
+  abbrev pub EachSays : (makes : ℕ → TermRow → Type 0) → (f : ℕ → Term) → Type 0
+  EachSays makes f = (xs : List TermRow) (i : ℕ) (r : TermRow) → makes i r → Says commutes xs r (f i)
 
   -- the first i numbers stand for f of 0, 1, ..
   pub record Named (xs ys : List TermRow) (ns : List ℕ) (f : ℕ → Term) (i : ℕ) : Type 0 where

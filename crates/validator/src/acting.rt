@@ -1,7 +1,6 @@
 // Actions on the numbers of terms.
 ghost use Rattle.std.specs.Prelude.{◌≡◌, ◌+◌, ◌<◌, ◌≤◌, length};
 ghost use Rattle.region.specs.Rows.{actions};
-ghost use Rattle.validator.specs.Held.{held};
 ghost use Rattle.validator.specs.Walks.{basis, may_trap_at, follow, follow_all};
 ghost use Rattle.validator.specs.Means.{Liveness, Does, Leaves, action_row, put as put_in};
 
@@ -74,9 +73,9 @@ impl Walk {
 
     /// One action.
     pub(crate) fn act<D: Domain>(&mut self, terms: &mut Terms, action: Action)
-        requires room { terms.old.table.len < 512 }
-        ensures few { terms.new.table.len ≤ terms.old.table.len + 1 }
-        ensures acts { Does D.meaning (held terms.old) self.old (held terms.new) self.new (λ β. follow β action) }
+        requires room { length terms.old < 512 }
+        ensures few { length terms.new ≤ length terms.old + 1 }
+        ensures acts { Does D.meaning terms.old self.old terms.new self.new (λ β. follow β action) }
     {
         let n = terms.intern(self.row::<D>(action));
         self.put::<D>(action, n);
@@ -84,9 +83,9 @@ impl Walk {
 
     /// The actions among the rows of a piece.
     pub(crate) fn acts<D: Domain>(&mut self, terms: &mut Terms, piece: &[Row])
-        requires room { terms.old.table.len + length piece.now ≤ 512 }
-        ensures few { terms.new.table.len ≤ terms.old.table.len + length piece.now }
-        ensures acts { Does D.meaning (held terms.old) self.old (held terms.new) self.new (λ β. follow_all β (actions piece.now)) }
+        requires room { length terms.old + length piece.now ≤ 512 }
+        ensures few { length terms.new ≤ length terms.old + length piece.now }
+        ensures acts { Does D.meaning terms.old self.old terms.new self.new (λ β. follow_all β (actions piece.now)) }
     {
         for row in piece {
             if let Row::Act(action) = *row {
@@ -103,9 +102,9 @@ impl Walk {
         label: LabelNumber,
         piece: &[Row],
     ) -> Reached
-        requires room { terms.old.table.len + length piece.now ≤ 512 }
-        ensures few { terms.new.table.len ≤ terms.old.table.len + length piece.now }
-        ensures leaves { Leaves D.meaning (held terms.old) self.now tested label piece.now (held terms.new) result }
+        requires room { length terms.old + length piece.now ≤ 512 }
+        ensures few { length terms.new ≤ length terms.old + length piece.now }
+        ensures leaves { Leaves D.meaning terms.old self.now tested label piece.now terms.new result }
     {
         let mut after = *self;
         after.acts::<D>(terms, piece);

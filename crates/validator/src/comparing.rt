@@ -1,7 +1,6 @@
 // The comparison of a schedule with its source.
 ghost use Rattle.std.specs.Prelude.{◌≡◌, ◌+◌, ◌≤◌, length};
 ghost use Rattle.region.specs.Kept.{kept};
-ghost use Rattle.validator.specs.Held.{held};
 ghost use Rattle.validator.specs.Walks.{basis};
 ghost use Rattle.validator.specs.Comparison.{mismatch as mismatch_of};
 ghost use Rattle.validator.specs.Live.{live_in};
@@ -9,7 +8,6 @@ ghost use Rattle.validator.specs.Compared.{compared};
 ghost use Rattle.validator.specs.Walkers.{left, line_of, entry_differs, DiffersFirst};
 
 use super::at::At;
-use super::differing::differ;
 use super::line_rows::LineRows;
 use super::term_row::TermRow;
 use super::terms::{TERM_ROWS, Terms};
@@ -20,7 +18,7 @@ use super::walking::Walker;
 use domain::Domain;
 use region::{LabelRow, Part, REGION_LABELS, Row, Shape, Side};
 
-// The stops of a line of 96 main rows that are all exits.
+// No walk has more stops: one at each of 96 main rows, and the end.
 const MOST_STOPS: u8 = 97;
 
 // A source and its schedule, with the labels that both lead to.
@@ -40,13 +38,13 @@ impl Pair<'_> {
         mut schedule: Walker,
         entry: u8,
     ) -> Option<Mismatch>
-        requires room { terms.old.table.len + left source + left schedule ≤ 512 }
-        ensures { DiffersFirst D.meaning self.now.labels.now entry (held terms.old) source.entry schedule.entry result }
+        requires room { length terms.old + left source + left schedule ≤ 512 }
+        ensures { DiffersFirst D.meaning self.now.labels.now entry terms.old source.entry schedule.entry result }
     {
         for stop in 1..=MOST_STOPS {
             let x = source.next_stop::<D>(terms);
             let y = schedule.next_stop::<D>(terms);
-            let mismatch = differ(&x, &y, self.labels, At { from: entry, stop });
+            let mismatch = At { from: entry, stop }.differ(&x, &y, self.labels);
             if mismatch.is_some() || x.condition.is_none() {
                 return mismatch;
             }
@@ -75,7 +73,7 @@ impl Pair<'_> {
         if self.schedule.shape.joins() != joins {
             return Some(At { from: 0, stop: 0 }.mismatch(Reason::Joins, 0));
         }
-        // No `find_map`: its contract does not say that None comes last where the closure writes, as here to the rows.
+        // No `find_map`: its contract leaves open that it asked all entries where the closure writes, as here to the rows.
         for entry in 0..=joins as u8 {
             let mismatch = self.differ_from::<D>(rows, entry);
             if mismatch.is_some() {

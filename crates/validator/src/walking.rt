@@ -18,7 +18,6 @@ pub(crate) struct Walker<'a> {
 }
 
 impl<'a> Walker<'a> {
-    ghost use Rattle.validator.specs.Held.{held};
     ghost use Rattle.validator.specs.Walkers.{left, ComesIn, ComesTo};
 
     /// A walk of a line from an entry that the line has: the piece of the entry's join is walked first.
@@ -28,10 +27,10 @@ impl<'a> Walker<'a> {
         start: &Walk,
         terms: &mut Terms,
     ) -> Walker<'a>
-        requires room { terms.old.table.len + 16 ≤ 512 }
+        requires room { length terms.old + 16 ≤ 512 }
         requires entry { entry ≤ line.shape.joins }
-        ensures few { terms.new.table.len ≤ terms.old.table.len + 16 }
-        ensures onward { ComesIn D.meaning line.entry entry (held terms.old) start.now (held terms.new) result }
+        ensures few { length terms.new ≤ length terms.old + 16 }
+        ensures onward { ComesIn D.meaning line.entry entry terms.old start.now terms.new result }
     {
         let main = line.part.main(line.side, &line.shape);
         let mut walk = *start;
@@ -56,20 +55,19 @@ impl<'a> Walker<'a> {
 
     /// Walks on to the next stop: an exit, or the end of the line.
     pub(crate) fn next_stop<D: Domain>(&mut self, terms: &mut Terms) -> Reached
-        requires room { terms.old.table.len + left self.old ≤ 512 }
-        ensures few { terms.new.table.len + left self.new ≤ terms.old.table.len + left self.old }
+        requires room { length terms.old + left self.old ≤ 512 }
+        ensures few { length terms.new + left self.new ≤ length terms.old + left self.old }
         ensures onward { is_some result.condition ≡ true → length self.new.ahead.now < length self.old.ahead.now }
-        ensures stopped { ComesTo D.meaning (held terms.old) self.old (held terms.new) self.new result }
+        ensures stopped { ComesTo D.meaning terms.old self.old terms.new self.new result }
     {
+        // No `for`: the walk stops among the rows, and goes on behind that stop at the next call.
         while let Some((row, rest)) = self.ahead.split_first() {
             self.ahead = rest;
             match *row {
                 Row::Act(action) => self.walk.act::<D>(terms, action),
                 Row::Exit { tested, label } => {
-                    let piece = self
-                        .line
-                        .part
-                        .piece(&self.line.shape, Piece::OfExit(self.exits));
+                    let line = self.line;
+                    let piece = line.part.piece(&line.shape, Piece::OfExit(self.exits));
                     self.exits += 1;
                     return self.walk.leave::<D>(terms, tested, label, piece);
                 }

@@ -1,6 +1,6 @@
 use Rattle.std.proofs.Common.{arith, rules}
 use Rattle.validator.specs.Live.{live_in}
-use Rattle.validator.proofs.Rounds.{held_few, mismatched, ended, onward}
+use Rattle.validator.proofs.Rounds.{mismatched, ended, onward}
 use Rattle.validator.proofs.comparing.Pair.differ_ahead.Goals as goal
 use Rattle.validator.proofs.comparing.Pair.differ_ahead.Goals.{then-is_some-via-then-is_some, then-is_some-via-else-is_some+then-is_none}
 
@@ -8,13 +8,13 @@ pub returns-then-is_some : goal.returns-then-is_some
 returns-then-is_some g c s t tidy p q =
     elim c.then-is_some.branch [
       | then-is_some-via-then-is_some w ↦
-          mismatched g.D.Domain.meaning c.args.self.now.labels.now _ _ _ _ _ _ _ _ _ _ _ _ _ _ _ _ (c.loop-stop.invariant.going s t tidy p q)
+          mismatched g.D.Domain.meaning c.args.self.now.labels.now (c.loop-stop.invariant.going s t tidy p q)
           (c.next_stop-x.ensures.stopped (live_in c.args.self.now.labels.now)) (c.next_stop-y.ensures.stopped (live_in c.args.self.now.labels.now))
-          (held_few c.next_stop-y.new.terms) _ c.differ-mismatch.ensures (search rules)
+          (omega (arith, c.next_stop-x.ensures.few, c.next_stop-y.ensures.few)) c.differ-mismatch.ensures (search rules)
       | then-is_some-via-else-is_some+then-is_none w ↦
-          ended g.D.Domain.meaning c.args.self.now.labels.now _ _ _ _ _ _ _ _ _ _ _ _ _ _ _ _ (c.loop-stop.invariant.going s t tidy p q)
+          ended g.D.Domain.meaning c.args.self.now.labels.now (c.loop-stop.invariant.going s t tidy p q)
           (c.next_stop-x.ensures.stopped (live_in c.args.self.now.labels.now)) (c.next_stop-y.ensures.stopped (live_in c.args.self.now.labels.now))
-          (held_few c.next_stop-y.new.terms) _ c.differ-mismatch.ensures (search rules) (search rules)
+          (omega (arith, c.next_stop-x.ensures.few, c.next_stop-y.ensures.few)) c.differ-mismatch.ensures (search rules) (search rules)
     ]
 
 pub loop-stop-preserved : goal.loop-stop-preserved
@@ -22,7 +22,7 @@ loop-stop-preserved g c = record {
   room = omega (arith, c.next_stop-x.ensures.few, c.next_stop-y.ensures.few);
   stops = search rules;
   going = λ s t tidy p q.
-      onward g.D.Domain.meaning c.args.self.now.labels.now _ _ _ _ _ _ _ _ _ _ _ _ _ _ _ _ (c.loop-stop.invariant.going s t tidy p q)
+      onward g.D.Domain.meaning c.args.self.now.labels.now (c.loop-stop.invariant.going s t tidy p q)
       (c.next_stop-x.ensures.stopped (live_in c.args.self.now.labels.now)) (c.next_stop-y.ensures.stopped (live_in c.args.self.now.labels.now))
-      (held_few c.next_stop-y.new.terms) _ c.differ-mismatch.ensures (search rules) c.if-is_none.ensures;
+      (omega (arith, c.next_stop-x.ensures.few, c.next_stop-y.ensures.few)) c.differ-mismatch.ensures (search rules) c.if-is_none.ensures;
 }

@@ -2,4 +2,4 @@ use Rattle.validator.proofs.Steps.{acted}
 use Rattle.validator.proofs.walk.Walk.act.Goals as goal
 
 pub returns-clause-acts : goal.returns-clause-acts
-returns-clause-acts g c = acted g.D.Domain.meaning _ _ _ _ c.args.action _ _ c.row.ensures c.put.ensures c.intern-n.ensures.interned
+returns-clause-acts g c = acted g.D.Domain.meaning c.args.action _ _ c.row.ensures c.put.ensures c.intern-n.ensures.interned

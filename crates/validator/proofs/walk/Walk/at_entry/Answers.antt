@@ -6,5 +6,5 @@ use Rattle.validator.proofs.walk.Walk.at_entry.Goals as goal
 
 pub returns-clause-begun : goal.returns-clause-begun
 returns-clause-begun c d =
-    begun d _ _ _ _ c.requires.empty c.name-registers.ensures.long c.name-banks.ensures.long refl
+    begun d _ c.requires.empty c.name-registers.ensures.long c.name-banks.ensures.long refl
     (c.name-registers.ensures.named d register_at_entry (λ xs i r p. rw p (says_register d xs i))) (c.name-banks.ensures.named d bank_at_entry (λ xs i r p. rw p (says_bank d xs i)))

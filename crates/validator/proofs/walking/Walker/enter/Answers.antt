@@ -9,11 +9,11 @@ use Rattle.validator.proofs.walking.Walker.enter.Goals as goal
 pub returns-then-entry-eq0-clause-onward : goal.returns-then-entry-eq0-clause-onward
 returns-then-entry-eq0-clause-onward g c live tidy h =
     let line = c.args.line in
-    enter_top g.D.Domain.meaning live line.side (rows_of line.part) (kept line.shape) c.args.entry _ _ tidy h _ c.main-main.ensures.rows c.if-entry-eq0.true
+    enter_top g.D.Domain.meaning live line.side (rows_of line.part) (kept line.shape) c.args.entry tidy h c.main-main.ensures.rows c.if-entry-eq0.true
 
 pub returns-clause-onward : goal.returns-clause-onward
 returns-clause-onward g c live tidy h =
     let line = c.args.line in
-    enter_join g.D.Domain.meaning live line.side (rows_of line.part) (kept line.shape) c.args.entry _ _ tidy h _ c.main-main.ensures.rows
-    (c.args.entry - 1) _ _ _ _ _ _ (omega arith) (take_all _ _ (omega (arith, length-drop {A = Row})))
+    enter_join g.D.Domain.meaning live line.side (rows_of line.part) (kept line.shape) c.args.entry tidy h c.main-main.ensures.rows
+    (c.args.entry - 1) _ _ (omega arith) (take_all _ _ (omega (arith, length-drop {A = Row})))
     (c.below-place.ensures.entered (rows_of line.part) (kept line.shape) line.shape.joins (omega arith)) c.piece.ensures.rows c.acts.ensures.acts

@@ -4,14 +4,14 @@ use Rattle.validator.specs.declared.verdict.Reason.TheVariants.{Register}
 use Rattle.validator.specs.Live.{bit}
 use Rattle.validator.specs.Numbers.{unlike}
 use Rattle.validator.proofs.Lowest.{lowest_at, lowest_none}
-use Rattle.validator.proofs.differing.differ_registers.Goals as goal
+use Rattle.validator.proofs.at.At.registers.Goals as goal
 
 pub returns-in_err-lowest : goal.returns-in_err-lowest
 returns-in_err-lowest c =
     let test : ℕ → Bool = λ i. (bit i c.args.live == 1) && unlike c.args.x.now.registers c.args.y.now.registers i in
     let none : (k : ℕ) → k < 16 → test k ≡ false = λ k l. search (rules, chains) in
     let nothing : c.from_residual.result ≡ None = search rules in
-    nothing ∙ lowest_none c.args.at.from c.args.at.stop Register 16 test none
+    nothing ∙ lowest_none c.args.self.from c.args.self.stop Register 16 test none
 
 pub returns : goal.returns
 returns c =
@@ -20,4 +20,4 @@ returns c =
     let inside : i < 16 = search (rules, chains) in
     let below : (k : ℕ) → k < i → test k ≡ false = λ k l. search (rules, chains) in
     let here : test i ≡ true = search (rules, chains) in
-    rw c.mismatch.ensures (lowest_at c.args.at.from c.args.at.stop Register 16 test i inside below here)
+    rw c.mismatch.ensures (lowest_at c.args.self.from c.args.self.stop Register 16 test i inside below here)
