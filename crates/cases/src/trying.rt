@@ -57,6 +57,7 @@ struct Trial<'a> {
     expected: &'a [Expected],
 }
 
+// The known pairs are stated in two domains alone, which are a type of their own.
 fn domain_of(pair: &KnownPair) -> DomainName {
     match pair.domain {
         known_pairs::DomainName::Wrapping => DomainName::Wrapping,
