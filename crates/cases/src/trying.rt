@@ -8,7 +8,8 @@ use std::fmt;
 use std::fmt::Write;
 use validator::Verdict;
 
-/// How many cases and answers there were, and how many answers differ from what was expected.
+/// How many cases and answers there were, and how many answers differ from what was expected. The sums saturate, as
+/// nothing says here how many there are.
 #[derive(Clone, Copy, Default)]
 pub struct Tally {
     cases: usize,
