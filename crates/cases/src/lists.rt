@@ -153,12 +153,12 @@ fn read_text(heap: Global, text: &str) -> Result<Vec<Case>, (usize, Flaw)> {
         cases: Vec::new(heap),
         draft: None,
     };
-    let mut last = 0;
     for (number, line) in (1usize..).zip(text.lines()) {
         reading.take(heap, line).map_err(|flaw| (number, flaw))?;
-        last = number;
     }
-    reading.end_case().map_err(|flaw| (last, flaw))?;
+    reading
+        .end_case()
+        .map_err(|flaw| (text.lines().count(), flaw))?;
     Ok(reading.cases)
 }
 

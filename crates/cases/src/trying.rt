@@ -8,7 +8,8 @@ use std::fmt;
 use std::fmt::Write;
 use validator::Verdict;
 
-/// How many cases and answers there were, and how many answers differ from what was expected.
+/// How many cases and answers there were, and how many answers differ from what was expected. The sums saturate, as
+/// nothing says here how many there are.
 #[derive(Clone, Copy, Default)]
 pub struct Tally {
     cases: usize,
@@ -57,6 +58,7 @@ struct Trial<'a> {
     expected: &'a [Expected],
 }
 
+// The known pairs are stated in two domains alone, which are a type of their own.
 fn domain_of(pair: &KnownPair) -> DomainName {
     match pair.domain {
         known_pairs::DomainName::Wrapping => DomainName::Wrapping,

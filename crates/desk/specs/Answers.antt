@@ -34,6 +34,11 @@ abbrev pub and_then : {X Y : Type 0} → Result X Declined → (X → Result Y D
 and_then (Ok x) f = f x
 and_then (Err e) f = Err e
 
+-- the store behind a call: that after it where it is declined, and else what later calls leave
+abbrev pub behind : {X : Type 0} → Result X Declined → (after later : Store) → Store
+behind (Ok x) after later = later
+behind (Err e) after later = after
+
 -- CHECK in the domain of that name, with room for so many terms
 abbrev pub check_answer_in : DomainName → Store → (r room : ℕ) → Result Verdict Refusal
 check_answer_in domain.Wrapping = check_answer wrapping
@@ -64,9 +69,8 @@ module _ (st : Store) (r : ℕ) (source schedule : List ℕ) where
         and_then (by call.Schedule (granted (schedule_answer after_source r schedule))) (λ _.
         by call.Check (check_answer_in d after_schedule r 512)))
 
-    -- the store that they leave: no call is made behind one that is declined
+    -- the store after the last call that is made: none is made behind one that is declined
     abbrev pub left : Store
     left =
-        settled st (λ _.
-        settled after_source (λ _. after_check) (schedule_answer after_source r schedule))
-        (source_answer st r source)
+        behind (by call.Source (granted (source_answer st r source))) after_source
+        (behind (by call.Schedule (granted (schedule_answer after_source r schedule))) after_schedule after_check)

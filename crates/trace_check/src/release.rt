@@ -9,7 +9,7 @@ use validator::Verdict;
 // How many regions the shelf has: a pair is put into the region of its number's remainder.
 pub(crate) const SHELF_PAIRS: usize = 16;
 
-/// How many pairs came to each end.
+/// How many pairs came to each end. The sums saturate, as nothing says here how many pairs there are.
 #[derive(Clone, Copy, Default)]
 pub struct Totals {
     passed: usize,

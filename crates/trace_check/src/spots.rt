@@ -85,14 +85,14 @@ impl<'a> Lines<'a> {
             joins: entry,
             exits: stop,
         };
-        let mut last = 0;
-        for (number, line) in (1usize..).zip(self.0.split_inclusive(|b| *b == b'\n')) {
-            if walk.stops_at(line) {
-                return number;
-            }
-            last = number;
+        let stands = self
+            .0
+            .split_inclusive(|b| *b == b'\n')
+            .position(|line| walk.stops_at(line));
+        match stands {
+            Some(before) => before + 1,
+            None => self.0.split_inclusive(|b| *b == b'\n').count(),
         }
-        last
     }
 }
 
