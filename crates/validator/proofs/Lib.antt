@@ -8,3 +8,4 @@ pub mod Entering
 pub mod Lowest
 pub mod Matching
 pub mod Rounds
+pub mod Bits

@@ -1,6 +1,11 @@
 -- The first thing that is found, going up, and the lowest place at which two stops differ.
-use Rattle.std.proofs.Common.{◌≡◌, ℕ, zero, suc, ◌<◌, ◌≤◌, Bool, true, false, ◌⊎◌, Some, None, Option, sym, refl, ap, ◌∙◌, ap₂, inl, inr, not-suc-le-zero, arith}
-use Rattle.std.proofs.lemmas.Bool.{cases_lt}
+use Rattle.std.proofs.Common.{◌≡◌, ℕ, zero, suc, ◌^◌, ◌<◌, ◌≤◌, Bool, true, false, ◌&&◌, eqb, ◌⊎◌, Some, None, Option, sym, refl, ap, ◌∙◌, ap₂, inl, inr, not-suc-le-zero, arith}
+use Rattle.std.proofs.lemmas.Bool.{cases_lt, eq-eqb, ne_eqb}
+use lib.Bits.{bit_and, and_lt}
+use lib.Count.{count_trailing_zeros}
+use Rattle.validator.specs.Live.{bit}
+use Rattle.validator.specs.Numbers.{Marks}
+use Rattle.validator.proofs.Bits.{none_set, set_and, trailing}
 use Rattle.validator.specs.declared.verdict.Reason.{Reason}
 use Rattle.validator.specs.Comparison.{◌or_else◌, first_below, found, lowest}
 
@@ -37,3 +42,19 @@ module _ (e n : ℕ) (r : Reason) (bound : ℕ) where
 
   pub lowest_none : (test : ℕ → Bool) → ((k : ℕ) → k < bound → test k ≡ false) → None ≡ lowest e n bound test r
   lowest_none test h = sym (first_below_none (λ k. found e n (test k) r k) bound (λ k l. ap (λ b. found e n b r k) (h k l)))
+
+-- the lowest live place that a mask marks
+module _ (e n : ℕ) (r : Reason) (test : ℕ → Bool) (live m : ℕ) (marks : Marks test 16 m) where
+  both : (k : ℕ) → k < 16 → eqb (bit k (bit_and live m)) 1 ≡ (eqb (bit k live) 1 && test k)
+  both k l = set_and k live m ∙ ap (λ b. eqb (bit k live) 1 && b) (marks.1 k l)
+
+  pub no_bit : bit_and live m ≡ 0 → None ≡ lowest e n 16 (λ i. eqb (bit i live) 1 && test i) r
+  no_bit z = lowest_none e n r 16 (λ i. eqb (bit i live) 1 && test i) (λ i l. sym (both i l) ∙ ap (λ j. eqb (bit i j) 1) z ∙ none_set i)
+
+  pub lowest_bit : live < 2 ^ 16 → m < 2 ^ 16 → 0 < bit_and live m
+      → Some (record { entry = e; stop = n; reason = r; number = count_trailing_zeros 16 (bit_and live m) }) ≡ lowest e n 16 (λ i. eqb (bit i live) 1 && test i) r
+  lowest_bit p q z =
+      let low = trailing 16 (bit_and live m) (and_lt 16 live m p q) z in
+      lowest_at e n r 16 (λ i. eqb (bit i live) 1 && test i) (count_trailing_zeros 16 (bit_and live m)) low.inside
+      (λ i l. sym (both i (omega (arith, low.inside))) ∙ ne_eqb _ 1 (λ o. omega (arith, o, low.none i l)))
+      (sym (both (count_trailing_zeros 16 (bit_and live m)) low.inside) ∙ eq-eqb _ 1 low.here)

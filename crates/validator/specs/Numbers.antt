@@ -1,5 +1,5 @@
 -- The comparison of two stops by the numbers of their terms.
-use Rattle.std.specs.Prelude.{ℕ, Bool, true, not, ◌&&◌, List, Some, None, Option, ◌==◌, slice_index, slice_index_or}
+use Rattle.std.specs.Prelude.{◌≡◌, ℕ, ◌^◌, ◌<◌, Bool, true, not, ◌&&◌, List, Some, None, Option, ◌==◌, slice_index, slice_index_or}
 use Rattle.std.specs.Bool.{beq}
 use Rattle.std.specs.Cmp.Lexicographic.{pointwise}
 use Rattle.region.specs.declared.label.LabelRow.{LabelRow}
@@ -18,6 +18,10 @@ live_mask labels l = (slice_index_or labels l.index unused).live
 
 abbrev pub unlike : List ℕ → List ℕ → ℕ → Bool
 unlike xs ys i = not (slice_index xs i == slice_index ys i)
+
+-- the bits of a mask below bit i are those of the numbers that pass the test
+abbrev pub Marks : (ℕ → Bool) → ℕ → ℕ → Type 0
+Marks test i mask = (mask < 2 ^ i) × ((k : ℕ) → k < i → (bit k mask == 1) ≡ test k)
 
 module _ (e n : ℕ) where
   abbrev pub conditions_differ : Option ℕ → Option ℕ → Option Mismatch

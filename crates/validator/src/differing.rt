@@ -1,19 +1,23 @@
 // The comparison of two stops by the numbers of their terms.
-ghost use Rattle.std.specs.Prelude.{◌≡◌, ◌<◌, ◌==◌};
-ghost use Rattle.validator.specs.Live.{bit};
-ghost use Rattle.validator.specs.Numbers.{live_mask, conditions_differ, labels_differ, registers_differ, banks_differ, marks_differ, numbers_differ};
+ghost use Rattle.std.specs.Prelude.{◌≡◌};
+ghost use Rattle.validator.specs.Numbers.{Marks, unlike, live_mask, conditions_differ, labels_differ, registers_differ, banks_differ, marks_differ, numbers_differ};
 
 use super::at::At;
 use super::verdict::{Mismatch, Reason};
 use super::walk::{Reached, Walk};
 use region::{LabelNumber, LabelRow, REGION_LABELS};
 
-// Whether a register is live by a mask.
-fn is_live(live: u16, register: usize) -> bool
-    requires { register < 16 }
-    ensures { result ≡ (bit register live == 1) }
+// The mask of the registers that hold different terms: bit i stands for register i.
+fn differing_mask(x: &[u16; 16], y: &[u16; 16]) -> u16
+    ensures { Marks (unlike x.now y.now) 16 result }
 {
-    live >> register & 1 == 1
+    let mut mask: u16 = 0;
+    for (i, n) in x.iter().enumerate() {
+        if *n != y[i] {
+            mask |= 1 << i;
+        }
+    }
+    mask
 }
 
 impl At {
@@ -38,13 +42,11 @@ impl At {
     fn registers(self, x: &Walk, y: &Walk, live: u16) -> Option<Mismatch>
         ensures { result ≡ registers_differ self.from self.stop live x.now y.now }
     {
-        let lowest = x
-            .registers
-            .iter()
-            .zip(&y.registers)
-            .enumerate()
-            .position(|(i, (n, m))| is_live(live, i) && n != m)?;
-        Some(self.mismatch(Reason::Register, lowest as u8))
+        let mask = live & differing_mask(&x.registers, &y.registers);
+        if mask == 0 {
+            return None;
+        }
+        Some(self.mismatch(Reason::Register, mask.trailing_zeros() as u8))
     }
 
     // The lowest bank that differs.
