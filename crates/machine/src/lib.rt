@@ -1,8 +1,8 @@
 // The machine: one interpreter of a region's rows, for every domain of words.
 #![tactic(auto)]
 
-mod line_rows;
 mod lines;
+mod runs;
 mod state;
 
 pub use lines::run;

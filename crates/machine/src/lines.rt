@@ -3,10 +3,9 @@ ghost use Rattle.std.specs.Prelude.{◌≡◌};
 ghost use Rattle.region.specs.Kept.{kept};
 ghost use Rattle.region.specs.Machine.{answered, run_in, state_after};
 
-use super::line_rows::LineRows;
 use super::state::State;
 use domain::Domain;
-use region::{Misfit, Outcome, Part, Row, STATE_WORDS, Shape, Side};
+use region::{LineRows, Misfit, Outcome, Part, Row, STATE_WORDS, Shape, Side};
 
 /// Runs the source or the schedule that lies in a region's rows, from an entry, on a state of 80 words.
 pub fn run<D: Domain>(
@@ -26,7 +25,11 @@ pub fn run<D: Domain>(
     if state.len() != STATE_WORDS {
         return Err(Misfit::State);
     }
-    let line = LineRows { part, side, shape };
-    let reached = line.run_from(entry, &mut State { words: state });
+    let line = LineRows {
+        part,
+        side,
+        shape: *shape,
+    };
+    let reached = State { words: state }.run_from(line, entry);
     Ok(reached.map_or(Outcome::Trapped, Outcome::Reached))
 }

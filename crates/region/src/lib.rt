@@ -7,6 +7,7 @@ mod entering;
 mod full;
 mod label;
 mod layout;
+mod line_rows;
 mod main_rows;
 mod numbers;
 mod outcome;
@@ -25,6 +26,7 @@ pub use layout::{
     EXIT_PIECES, EXITS, JOIN_PIECES, JOINS, MAIN_ROWS, PIECE_ROWS, PIECES, REGION_LABELS,
     REGION_ROWS, SCHEDULE_ROWS, STATE_WORDS,
 };
+pub use line_rows::LineRows;
 pub use main_rows::MainRows;
 pub use numbers::{Bank, LabelNumber, Register};
 pub use outcome::{Misfit, Outcome};

@@ -3,7 +3,7 @@ ghost use Rattle.std.specs.Prelude.{◌≡◌, length};
 
 use super::row::Row;
 
-mod pieces;
+mod making;
 
 /// The 384 rows of one region, which are a part of the rows that a caller lends.
 #[derive(Clone, Copy)]

@@ -82,25 +82,20 @@ impl Held {
             Side::Schedule => record.schedule,
         };
         match (held, Part::new(&self.rows)) {
-            (Some(shape), Some(part)) => self.show_line(rt, path, part.main(side, &shape), &shape),
+            (Some(shape), Some(part)) => self.show_line(rt, path, LineRows { part, side, shape }),
             _ => Ok(()),
         }
     }
 
-    fn show_line(
-        &self,
-        rt: &HostRuntime,
-        path: &str,
-        rows: &[Row],
-        shape: &Shape,
-    ) -> Result<(), Trouble> {
+    fn show_line(&self, rt: &HostRuntime, path: &str, line: LineRows) -> Result<(), Trouble> {
+        let rows = line.main();
         let count = rows.len();
         let exits = rows
             .iter()
             .filter(|row| matches!(row, Row::Exit { .. }))
             .count();
-        let joins = shape.joins();
-        let end = label_text(&self.labels, shape.end());
+        let joins = line.shape.joins();
+        let end = label_text(&self.labels, line.shape.end());
         println!(rt; "{path}: rows {count}, exits {exits}, joins {joins}, end {end}")?;
         for (number, row) in rows.iter().enumerate() {
             let text = RowText {

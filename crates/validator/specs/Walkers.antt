@@ -5,7 +5,7 @@ use Rattle.region.specs.declared.label.LabelRow.{LabelRow}
 use Rattle.region.specs.Kept.{kept}
 use Rattle.region.specs.Lines.{Line, assembled}
 use Rattle.region.specs.Parts.{rows_of}
-use Rattle.validator.specs.declared.line_rows.LineRows.{LineRows}
+use Rattle.region.specs.declared.line_rows.LineRows.{LineRows}
 use Rattle.validator.specs.declared.term_row.TermRow.{TermRow}
 use Rattle.validator.specs.declared.verdict.Mismatch.{Mismatch}
 use Rattle.validator.specs.declared.walk.Reached.{Reached}

@@ -8,7 +8,6 @@ ghost use Rattle.validator.specs.Compared.{compared};
 ghost use Rattle.validator.specs.Walkers.{left, line_of, entry_differs, DiffersFirst};
 
 use super::at::At;
-use super::line_rows::LineRows;
 use super::term_row::TermRow;
 use super::terms::{TERM_ROWS, Terms};
 use super::unfit::Unfit;
@@ -16,7 +15,7 @@ use super::verdict::{Mismatch, Reason, Verdict};
 use super::walk::Walk;
 use super::walking::Walker;
 use domain::Domain;
-use region::{LabelRow, Part, REGION_LABELS, Row, Shape, Side};
+use region::{LabelRow, LineRows, Part, REGION_LABELS, Row, Shape, Side};
 
 // No walk has more stops: one at each of 96 main rows, and the end.
 const MOST_STOPS: u8 = 97;

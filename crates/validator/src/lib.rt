@@ -9,7 +9,6 @@ mod at;
 mod comparing;
 mod differing;
 mod entries;
-mod line_rows;
 mod term_row;
 mod terms;
 mod unfit;

@@ -1,11 +1,10 @@
 // Walks over main rows, from stop to stop.
 ghost use Rattle.std.specs.Prelude.{◌≡◌, ◌+◌, ◌<◌, ◌≤◌, true, length, is_some};
 
-use super::line_rows::LineRows;
 use super::terms::Terms;
 use super::walk::{Reached, Walk};
 use domain::Domain;
-use region::{Piece, Position, Row, below};
+use region::{LineRows, Piece, Position, Row, below};
 
 /// A walk of a line: the main rows ahead, how many exits are above them, and the symbolic state there.
 #[derive(Drop)]
@@ -32,7 +31,7 @@ impl<'a> Walker<'a> {
         ensures few { length terms.new ≤ length terms.old + 16 }
         ensures onward { ComesIn D.meaning line.entry entry terms.old start.now terms.new result }
     {
-        let main = line.part.main(line.side, &line.shape);
+        let main = line.main();
         let mut walk = *start;
         if entry == 0 {
             return Walker {
@@ -44,7 +43,7 @@ impl<'a> Walker<'a> {
         }
         let join = entry as usize - 1;
         let Position { place, exits } = below(main, join);
-        walk.acts::<D>(terms, line.part.piece(&line.shape, Piece::OfJoin(join)));
+        walk.acts::<D>(terms, line.piece(Piece::OfJoin(join)));
         Walker {
             line,
             ahead: &main[place..],
@@ -67,7 +66,7 @@ impl<'a> Walker<'a> {
                 Row::Act(action) => self.walk.act::<D>(terms, action),
                 Row::Exit { tested, label } => {
                     let line = self.line;
-                    let piece = line.part.piece(&line.shape, Piece::OfExit(self.exits));
+                    let piece = line.piece(Piece::OfExit(self.exits));
                     self.exits += 1;
                     return self.walk.leave::<D>(terms, tested, label, piece);
                 }
