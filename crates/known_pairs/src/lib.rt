@@ -13,7 +13,7 @@ mod table;
 pub use pair::{DomainName, KnownPair};
 use table::PAIRS;
 
-// The pair of a number in a table.
+// The pair of a number in a table. It is a function of its own, since a proof cannot name a constant that holds references.
 fn at(table: &[KnownPair], number: usize) -> Option<KnownPair>
     ensures { result ≡ slice_get table.now number }
 {

@@ -1,6 +1,7 @@
 // A pair of texts with its verdict.
 use validator::Verdict;
 
+// Other domains have no name here, since no pair of the list is proved in them.
 /// The domains that pairs are compared in: wrapping and trapping words.
 #[derive(Clone, Copy)]
 pub enum DomainName {

@@ -1,14 +1,13 @@
 -- One event more.
-use Rattle.std.proofs.Common.{◌≡◌, ℕ, ◌+◌, ◌<◌, List, [], ◌∷◌, ◌++◌, length, get_or, take, drop, set, Ok, sym, refl, ap, ◌∙◌, subst, ap₂, arith, take_all}
+use Rattle.std.proofs.Common.{◌≡◌, ℕ, ◌+◌, ◌<◌, List, [], ◌∷◌, ◌++◌, length, get_or, take, drop, set, Ok, sym, refl, ap, ◌∙◌, subst, ap₂, arith}
 use Rattle.std.proofs.lemmas.List.{length-take-le, take_more, take_more_set}
-use Rattle.replay.specs.declared.call.Answer.{Answer}
 use Rattle.replay.specs.declared.call.Call.{Call}
 use Rattle.domain.specs.Meaning.{Meaning, Lawful}
 use Rattle.shelf.specs.Calls.{open_answer, opened}
 use Rattle.shelf.specs.Store.{Store}
 use Rattle.replay.specs.Events.{Event, history}
 use Rattle.replay.specs.Requests.{asked}
-use Rattle.replay.specs.Answers.{answer_to}
+use Rattle.replay.specs.Answers.{Answer, answer_to}
 use Rattle.replay.specs.Steps.{store_after, Kept}
 use Rattle.replay.specs.Law.{Law, made, by_open, Replayed}
 use Rattle.replay.proofs.Keeping.{kept_more}
@@ -37,13 +36,6 @@ module _ {W : Type 0} (m : Meaning W) (terms n : ℕ) where
       rw (history_more cs as' i d a h k)
       (kept_more m terms n st st' (history [] (take i cs) (take i as')) (asked (get_or cs i d)) a all
       (p ∙ ap (λ j. answer_to m j st (asked (get_or cs i d))) e) (q ∙ ap (λ j. store_after m j st (asked (get_or cs i d))) e))
-
-  -- after all of them
-  pub made_all : (st : Store) (cs : List Call) (as' : List Answer) (i : ℕ) → i ≡ length cs → Kept m terms n st (history [] (take i cs) (take i as'))
-      → Kept m terms n st (history [] cs (take (length cs) as'))
-  made_all st cs as' i e all =
-      subst (λ xs. Kept m terms n st (history [] xs (take (length cs) as'))) (take_all (length cs) cs (omega arith))
-      (subst (λ j. Kept m terms n st (history [] (take j cs) (take j as'))) e all)
 
   -- after OPEN, and as many calls as there is room for answers
   pub replayed : Lawful m → (calls part : List Call) (st st₁ st' : Store) (before after : List Answer) (k : ℕ) → Ok n ≡ open_answer st → st₁ ≡ opened st n

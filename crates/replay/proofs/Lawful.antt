@@ -1,6 +1,7 @@
 -- The law of every list of calls.
-use Rattle.std.proofs.Common.{◌≡◌, ℕ, ◌*◌, ◌/◌, ◌<◌, ◌≤◌, min, Bool, true, false, cond, ◌&&◌, eqb, ltb, leb, List, [], ◌∷◌, ◌++◌, length, get_or, replicate, Some, None, Ok, Err, Option, Result, sym, refl, ap, ◌∙◌, subst, ⊎_elim, arith}
+use Rattle.std.proofs.Common.{◌≡◌, ◌↔◌, ℕ, ◌*◌, ◌/◌, ◌<◌, ◌≤◌, min, Bool, true, false, cond, ◌&&◌, eqb, ltb, leb, List, [], ◌∷◌, ◌++◌, length, get_or, replicate, Some, None, Ok, Err, Option, Result, sym, refl, ap, ◌∙◌, subst, ⊎_elim}
 use Rattle.std.proofs.lemmas.Bool.{and_parts, eqb-true, le-ltb, leb-true, lt-ltb, cases_lt}
+use Rattle.std.specs.Result.{is_ok}
 use Rattle.domain.specs.Meaning.{Meaning, Lawful}
 use Rattle.region.specs.Labels.{unused}
 use Rattle.region.specs.Rows.{blank}
@@ -13,18 +14,17 @@ use Rattle.moves.proofs.Completeness.{complete}
 use Rattle.moves.proofs.Found.{passed as passed_means}
 use Rattle.moves.proofs.Soundness.{sound}
 use Rattle.shelf.specs.declared.refusal.Number.TheVariants as number
-use Rattle.shelf.specs.Calls.{opening, opened, reading, is_passed}
+use Rattle.shelf.specs.Calls.{on_granted, opening, opened, reading, is_passed}
 use Rattle.shelf.specs.Refusals.{without_place}
 use Rattle.shelf.specs.Store.{Store, empty_region}
-use Rattle.replay.specs.declared.call.Answer.{Answer}
-use Rattle.replay.specs.declared.call.Answer.TheVariants.{Done, Judged, HandedOut, Declined}
+use Rattle.replay.specs.declared.call.Granted.TheVariants.{Done, Judged, HandedOut}
 use Rattle.replay.specs.Requests as call
 use Rattle.replay.specs.Requests.{Request}
-use Rattle.replay.specs.Events.{Event, is_granted, region_of_request, counts, alters}
+use Rattle.replay.specs.Events.{Event, region_of_request, counts, alters}
 use Rattle.replay.specs.Held.{Held, nothing, basis_of, verdict_of, compared, held_after, held, passed, Untouched}
-use Rattle.replay.specs.Law.{Exactly, handed, Rightly, RunsAlike, AtRegion, Law}
+use Rattle.replay.specs.Law.{handed, Rightly, RunsAlike, AtRegion, Law}
 use Rattle.replay.specs.Said.{source_line, schedule_line}
-use Rattle.replay.specs.Answers.{answered, answer_to}
+use Rattle.replay.specs.Answers.{Answer, answer_to}
 use Rattle.replay.specs.Steps.{AllAnswered, Kept}
 use Rattle.replay.specs.Stored.{record_of, stored}
 use Rattle.replay.proofs.ByHeld.{judged_by, source_by, schedule_by, check_by, hand_out_by, source_run_by, schedule_run_by}
@@ -38,7 +38,7 @@ opening_fits rows labels n e = go (leb 1 (rows / 384) && leb (rows / 384) 16 && 
   where
     go : (b : Bool) → (leb 1 (rows / 384) && leb (rows / 384) 16 && eqb rows (384 * (rows / 384)) && eqb labels (9 * (rows / 384))) ≡ b
         → cond b (Ok (rows / 384)) (Err (without_place number.Sizes)) ≡ Ok n → (n ≤ 16) × (rows ≡ 384 * n) × (labels ≡ 9 * n)
-    go false p q = absurd (let z : ◌≡◌ {A = ℕ} 0 1 = cc in omega arith)
+    go false p q = cc
     go true p q =
         let k : rows / 384 ≡ n = cc in
         let x = and_parts (leb 1 (rows / 384) && leb (rows / 384) 16 && eqb rows (384 * (rows / 384))) _ p in
@@ -46,35 +46,28 @@ opening_fits rows labels n e = go (leb 1 (rows / 384) && leb (rows / 384) 16 && 
         let z = and_parts (leb 1 (rows / 384)) _ y.0 in
         (subst (λ i. i ≤ 16) k (leb-true _ _ z.1), eqb-true _ _ y.1 ∙ ap (λ i. 384 * i) k, eqb-true _ _ x.1 ∙ ap (λ i. 9 * i) k)
 
--- the verdict of an answer, where it has one
-abbrev judged_verdict : Verdict → Answer → Verdict
-judged_verdict d Done = d
-judged_verdict d (Judged v) = v
-judged_verdict d HandedOut = d
-judged_verdict d (Declined e) = d
-
 read_back : {X E : Type 0} {x y : X} → ◌≡◌ {A = Result X E} (Ok x) (Ok y) → x ≡ y
 read_back e = cc
 
 is_pass : (v : Verdict) → is_passed (Some v) ≡ true → v ≡ Passed
 is_pass Passed p = refl
-is_pass (Failed x) p = absurd (let z : ◌≡◌ {A = ℕ} 0 1 = cc in omega arith)
+is_pass (Failed x) p = cc
 
 module _ {W : Type 0} (m : Meaning W) where
   -- a schedule is passed only where it compares so with the source that is held
   pass_means : (r : ℕ) (es : List Event) → is_passed (held m r es).verdict ≡ true → is_passed (compared m (held m r es).source (held m r es).schedule) ≡ true
-  pass_means r [] p = absurd (let z : ◌≡◌ {A = ℕ} 0 1 = cc in omega arith)
+  pass_means r [] p = cc
   pass_means r (e ∷ es) p = go (counts r e) e.call p (pass_means r es)
     where
       go : (b : Bool) (c : Request) → is_passed (cond b (held_after m c (held m r es)) (held m r es)).verdict ≡ true
           → (is_passed (held m r es).verdict ≡ true → is_passed (compared m (held m r es).source (held m r es).schedule) ≡ true)
           → is_passed (compared m (cond b (held_after m c (held m r es)) (held m r es)).source (cond b (held_after m c (held m r es)) (held m r es)).schedule) ≡ true
       go false c q k = k q
-      go true (call.Source s t) q k = absurd (let z : ◌≡◌ {A = ℕ} 0 1 = cc in omega arith)
-      go true (call.Schedule s t) q k = absurd (let z : ◌≡◌ {A = ℕ} 0 1 = cc in omega arith)
+      go true (call.Source s t) q k = cc
+      go true (call.Schedule s t) q k = cc
       go true (call.Check s lent) q k = q
       go true (call.HandOut s) q k = k q
-      go true (call.Drop s) q k = absurd (let z : ◌≡◌ {A = ℕ} 0 1 = cc in omega arith)
+      go true (call.Drop s) q k = cc
 
   -- it stays so under calls that put nothing else in
   pass_stays : (r : ℕ) (later earlier : List Event) → passed m r earlier ≡ true → Untouched r later → passed m r (later ++ earlier) ≡ true
@@ -84,11 +77,11 @@ module _ {W : Type 0} (m : Meaning W) where
       go : (b : Bool) (c : Request) → (b && alters c) ≡ false → passed m r (later ++ earlier) ≡ true
           → is_passed (cond b (held_after m c (held m r (later ++ earlier))) (held m r (later ++ earlier))).verdict ≡ true
       go false c q k = k
-      go true (call.Source s t) q k = absurd (let z : ◌≡◌ {A = ℕ} 0 1 = cc in omega arith)
-      go true (call.Schedule s t) q k = absurd (let z : ◌≡◌ {A = ℕ} 0 1 = cc in omega arith)
+      go true (call.Source s t) q k = cc
+      go true (call.Schedule s t) q k = cc
       go true (call.Check s lent) q k = pass_means r (later ++ earlier) k
       go true (call.HandOut s) q k = k
-      go true (call.Drop s) q k = absurd (let z : ◌≡◌ {A = ℕ} 0 1 = cc in omega arith)
+      go true (call.Drop s) q k = cc
 
   -- what a passed region holds
   pub record Passes (h : Held) : Type 0 where
@@ -102,8 +95,8 @@ module _ {W : Type 0} (m : Meaning W) where
   passes r es p = go (held m r es).source (held m r es).schedule refl refl (pass_means r es p)
     where
       go : (o : Option Source) (x : Option Schedule) → (held m r es).source ≡ o → (held m r es).schedule ≡ x → is_passed (compared m o x) ≡ true → Passes (held m r es)
-      go None x i j q = absurd (let z : ◌≡◌ {A = ℕ} 0 1 = cc in omega arith)
-      go (Some s) None i j q = absurd (let z : ◌≡◌ {A = ℕ} 0 1 = cc in omega arith)
+      go None x i j q = cc
+      go (Some s) None i j q = cc
       go (Some s) (Some x) i j q = record { source = s; schedule = x; holds_source = i; holds_schedule = j; compares = is_pass (verdict_of m s x) q }
 
 -- a shelf that was just opened
@@ -130,18 +123,18 @@ module _ {W : Type 0} (m : Meaning W) (laws : Lawful m) (terms n : ℕ) (few : n
   each (l ∷ later) earlier e a = each later earlier e a.1
 
   -- a call on a region that the shelf has not is declined
-  declined : (es : List Event) (c : Request) → n ≤ region_of_request c → is_granted (answer_to m terms (stored n (then es)) c) ≡ false
-  declined es (call.Source r t) h = ap (λ o. is_granted (answered (λ _. Done) o)) (source_by m n few (then es) (fits es) r t false (le-ltb r n h))
-  declined es (call.Schedule r t) h = ap (λ o. is_granted (answered (λ _. Done) o)) (schedule_by m n few (then es) (fits es) r t false (le-ltb r n h))
+  declined : (es : List Event) (c : Request) → n ≤ region_of_request c → is_ok (answer_to m terms (stored n (then es)) c) ≡ false
+  declined es (call.Source r t) h = ap (λ o. is_ok (on_granted (λ _. Done) o)) (source_by m n few (then es) (fits es) r t false (le-ltb r n h))
+  declined es (call.Schedule r t) h = ap (λ o. is_ok (on_granted (λ _. Done) o)) (schedule_by m n few (then es) (fits es) r t false (le-ltb r n h))
   declined es (call.Check r lent) h =
-      ap (λ o. is_granted (answered Judged o)) (check_by m n few (then es) (fits es) r (min lent terms) (ltb (min lent terms) 512) false refl (le-ltb r n h))
+      ap (λ o. is_ok (on_granted Judged o)) (check_by m n few (then es) (fits es) r (min lent terms) (ltb (min lent terms) 512) false refl (le-ltb r n h))
       ∙ go (ltb (min lent terms) 512)
     where
-      go : (a : Bool) → is_granted (answered Judged (cond a (Err (without_place number.Sizes)) (Err (without_place number.Region)))) ≡ false
+      go : (a : Bool) → is_ok (on_granted Judged (cond a (Err (without_place number.Sizes)) (Err (without_place number.Region)))) ≡ false
       go true = refl
       go false = refl
-  declined es (call.HandOut r) h = ap (λ o. is_granted (answered (λ _. HandedOut) o)) (hand_out_by m n few (then es) (fits es) r false (le-ltb r n h))
-  declined es (call.Drop r) h = ap (λ o. is_granted (answered (λ _. Done) o)) (region_known n (then es) (fits es) few r false (le-ltb r n h))
+  declined es (call.HandOut r) h = ap (λ o. is_ok (on_granted (λ _. HandedOut) o)) (hand_out_by m n few (then es) (fits es) r false (le-ltb r n h))
+  declined es (call.Drop r) h = ap (λ o. is_ok (on_granted (λ _. Done) o)) (region_known n (then es) (fits es) few r false (le-ltb r n h))
 
   -- and so it never holds anything
   outside : (r : ℕ) → n ≤ r → (es : List Event) → AllAnswered m terms n es → held m r es ≡ nothing
@@ -151,27 +144,27 @@ module _ {W : Type 0} (m : Meaning W) (laws : Lawful m) (terms n : ℕ) (few : n
       go : (b : Bool) → counts r e ≡ b → held m r es ≡ nothing → cond b (held_after m e.call (held m r es)) (held m r es) ≡ nothing
       go false p k = k
       go true p k =
-          let q = and_parts (is_granted e.answer) _ p in
+          let q = and_parts (is_ok e.answer) _ p in
           let x = declined es e.call (subst (λ i. n ≤ i) (sym (eqb-true _ _ q.1)) h) in
-          let y = ap is_granted a.0 in
-          absurd (let z : ◌≡◌ {A = ℕ} 0 1 = cc in omega arith)
+          let y = ap is_ok a.0 in
+          cc
 
   inside : (r : ℕ) (es : List Event) → AllAnswered m terms n es → passed m r es ≡ true → r < n
-  inside r es a p = ⊎_elim (λ l. l) (λ h. let q = ap (λ k. is_passed k.verdict) (outside r h es a) in absurd (let z : ◌≡◌ {A = ℕ} 0 1 = cc in omega arith)) (cases_lt r n)
+  inside r es a p = ⊎_elim (λ l. l) (λ h. let q = ap (λ k. is_passed k.verdict) (outside r h es a) in cc) (cases_lt r n)
 
-  rightly : (es : List Event) (r lent : ℕ) (v : Verdict) → Judged v ≡ answer_to m terms (stored n (then es)) (call.Check r lent) → Rightly m v (held m r es)
+  rightly : (es : List Event) (r lent : ℕ) (v : Verdict) → Ok (Judged v) ≡ answer_to m terms (stored n (then es)) (call.Check r lent) → Rightly m v (held m r es)
   rightly es r lent v p =
       go (ltb (min lent terms) 512) (ltb r n) (held m r es).source (held m r es).schedule refl refl
-      (p ∙ ap (answered Judged) (check_by m n few (then es) (fits es) r (min lent terms) (ltb (min lent terms) 512) (ltb r n) refl refl))
+      (p ∙ ap (on_granted Judged) (check_by m n few (then es) (fits es) r (min lent terms) (ltb (min lent terms) 512) (ltb r n) refl refl))
     where
       go : (a b : Bool) (o : Option Source) (x : Option Schedule) → (held m r es).source ≡ o → (held m r es).schedule ≡ x
-          → Judged v ≡ answered Judged (cond a (Err (without_place number.Sizes)) (cond b (judged_by m o x) (Err (without_place number.Region)))) → Rightly m v (held m r es)
-      go true b o x i j q = absurd (let z : ◌≡◌ {A = ℕ} 0 1 = cc in omega arith)
-      go false false o x i j q = absurd (let z : ◌≡◌ {A = ℕ} 0 1 = cc in omega arith)
-      go false true None x i j q = absurd (let z : ◌≡◌ {A = ℕ} 0 1 = cc in omega arith)
-      go false true (Some s) None i j q = absurd (let z : ◌≡◌ {A = ℕ} 0 1 = cc in omega arith)
+          → Ok (Judged v) ≡ on_granted Judged (cond a (Err (without_place number.Sizes)) (cond b (judged_by m o x) (Err (without_place number.Region)))) → Rightly m v (held m r es)
+      go true b o x i j q = cc
+      go false false o x i j q = cc
+      go false true None x i j q = cc
+      go false true (Some s) None i j q = cc
       go false true (Some s) (Some x) i j q =
-          let k : v ≡ verdict_of m s x = ap (judged_verdict v) q in
+          let k : v ≡ verdict_of m s x = cc in
           record {
             source = s;
             schedule = x;
@@ -182,20 +175,20 @@ module _ {W : Type 0} (m : Meaning W) (laws : Lawful m) (terms n : ℕ) (few : n
           }
 
   handed_out : (es : List Event) (r : ℕ) (a : Answer) → AllAnswered m terms n es → a ≡ answer_to m terms (stored n (then es)) (call.HandOut r)
-      → Exactly (a ≡ HandedOut) (passed m r es ≡ true)
-  handed_out es r a k p = record {
-    forth = λ e. forth (ltb r n) (held m r es).source (held m r es).schedule (passed m r es) (sym e ∙ p ∙ ap (answered (λ _. HandedOut)) (hand_out_by m n few (then es) (fits es) r (ltb r n) refl));
-    back = λ e. let w = passes m r es e in
-        p ∙ ap (answered (λ _. HandedOut)) (hand_out_by m n few (then es) (fits es) r true (lt-ltb r n (inside r es k e)))
-        ∙ (λ i. answered (λ _. HandedOut) (handed (w.holds_source i) (w.holds_schedule i) (e i)));
-  }
+      → (a ≡ Ok HandedOut) ↔ (passed m r es ≡ true)
+  handed_out es r a k p = (
+    λ e. forth (ltb r n) (held m r es).source (held m r es).schedule (passed m r es) (sym e ∙ p ∙ ap (on_granted (λ _. HandedOut)) (hand_out_by m n few (then es) (fits es) r (ltb r n) refl)),
+    λ e. let w = passes m r es e in
+        p ∙ ap (on_granted (λ _. HandedOut)) (hand_out_by m n few (then es) (fits es) r true (lt-ltb r n (inside r es k e)))
+        ∙ (λ i. on_granted (λ _. HandedOut) (handed (w.holds_source i) (w.holds_schedule i) (e i))),
+  )
     where
-      forth : (b : Bool) (o : Option Source) (x : Option Schedule) (w : Bool) → HandedOut ≡ answered (λ _. HandedOut) (cond b (handed o x w) (Err (without_place number.Region))) → w ≡ true
+      forth : (b : Bool) (o : Option Source) (x : Option Schedule) (w : Bool) → Ok HandedOut ≡ on_granted (λ _. HandedOut) (cond b (handed o x w) (Err (without_place number.Region))) → w ≡ true
       forth b o x true q = refl
-      forth false o x false q = absurd (let z : ◌≡◌ {A = ℕ} 0 1 = cc in omega arith)
-      forth true None x false q = absurd (let z : ◌≡◌ {A = ℕ} 0 1 = cc in omega arith)
-      forth true (Some s) None false q = absurd (let z : ◌≡◌ {A = ℕ} 0 1 = cc in omega arith)
-      forth true (Some s) (Some x) false q = absurd (let z : ◌≡◌ {A = ℕ} 0 1 = cc in omega arith)
+      forth false o x false q = cc
+      forth true None x false q = cc
+      forth true (Some s) None false q = cc
+      forth true (Some s) (Some x) false q = cc
 
   runs_alike : (es : List Event) (r : ℕ) → r < n → passed m r es ≡ true → RunsAlike m (stored n (then es)) r (held m r es)
   runs_alike es r l p =

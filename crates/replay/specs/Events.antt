@@ -1,8 +1,8 @@
 -- Calls that were made, with what they answered.
 use Rattle.std.specs.Prelude.{ℕ, Bool, true, false, ◌&&◌, List, [], ◌∷◌, ◌==◌}
-use Rattle.replay.specs.declared.call.Answer.{Answer}
-use Rattle.replay.specs.declared.call.Answer.TheVariants.{Done, Judged, HandedOut, Declined}
+use Rattle.std.specs.Result.{is_ok}
 use Rattle.replay.specs.declared.call.Call.{Call}
+use Rattle.replay.specs.Answers.{Answer}
 use Rattle.replay.specs.Requests as call
 use Rattle.replay.specs.Requests.{Request, asked}
 
@@ -17,12 +17,6 @@ history es [] as' = es
 history es (c ∷ cs) [] = es
 history es (c ∷ cs) (a ∷ as') = history (record { call = asked c; answer = a } ∷ es) cs as'
 
-abbrev pub is_granted : Answer → Bool
-is_granted Done = true
-is_granted (Judged v) = true
-is_granted HandedOut = true
-is_granted (Declined e) = false
-
 -- the region that a call names
 abbrev pub region_of_request : Request → ℕ
 region_of_request (call.Source r t) = r
@@ -33,7 +27,7 @@ region_of_request (call.Drop r) = r
 
 -- only granted calls on a region count for what it holds
 abbrev pub counts : ℕ → Event → Bool
-counts r e = is_granted e.answer && region_of_request e.call == r
+counts r e = is_ok e.answer && region_of_request e.call == r
 
 -- calls that put something else into a region
 abbrev pub alters : Request → Bool

@@ -1,5 +1,5 @@
 -- A list of calls on a shelf of one region, with what each answers and whether the region's schedule is passed then.
-use Rattle.std.specs.Prelude.{◌≡◌, ℕ, Bool, true, false, cond, List, [], ◌∷◌, map, codes, ◌==◌}
+use Rattle.std.specs.Prelude.{◌≡◌, ℕ, Bool, true, false, cond, List, [], ◌∷◌, map, Ok, Err, codes, ◌==◌}
 use Prim.Native.String.{String}
 use Rattle.domain.specs.Wrapping.{wrapping}
 use Rattle.region_text.specs.declared.fault.Fault.TheVariants as fault
@@ -8,8 +8,8 @@ use Rattle.shelf.specs.declared.refusal.Number.TheVariants as number
 use Rattle.shelf.specs.Refusals.{without_place}
 use Rattle.validator.specs.declared.verdict.Reason.TheVariants as reason
 use Rattle.validator.specs.declared.verdict.Verdict.TheVariants.{Passed, Failed}
-use Rattle.replay.specs.declared.call.Answer.{Answer}
-use Rattle.replay.specs.declared.call.Answer.TheVariants.{Done, Judged, HandedOut, Declined}
+use Rattle.replay.specs.declared.call.Granted.TheVariants.{Done, Judged, HandedOut}
+use Rattle.replay.specs.Answers.{Answer}
 use Rattle.replay.specs.Events.{Event}
 use Rattle.replay.specs.Held.{held, passed}
 use Rattle.replay.specs.Law.{Law}
@@ -47,25 +47,25 @@ step c a p = record { call = c; answer = a; passes = p }
 -- in the order in which they are made, with 512 term rows to lend
 abbrev pub story : List Step
 story =
-    step (Check 0 512) (Declined (without_place number.Source)) false
-    ∷ step (Source 0 booking) Done false
-    ∷ step (HandOut 0) (Declined (without_place number.Schedule)) false
-    ∷ step (Schedule 0 lifted) Done false
-    ∷ step (Check 0 512) (Judged (Failed (record { entry = 0; stop = 1; reason = reason.Bank; number = 1 }))) false
-    ∷ step (HandOut 0) (Declined (without_place number.NotPassed)) false
-    ∷ step (Schedule 0 good) Done false
-    ∷ step (Check 0 511) (Declined (without_place number.Sizes)) false
-    ∷ step (Check 0 512) (Judged Passed) true
-    ∷ step (HandOut 0) HandedOut true
+    step (Check 0 512) (Err (without_place number.Source)) false
+    ∷ step (Source 0 booking) (Ok Done) false
+    ∷ step (HandOut 0) (Err (without_place number.Schedule)) false
+    ∷ step (Schedule 0 lifted) (Ok Done) false
+    ∷ step (Check 0 512) (Ok (Judged (Failed (record { entry = 0; stop = 1; reason = reason.Bank; number = 1 })))) false
+    ∷ step (HandOut 0) (Err (without_place number.NotPassed)) false
+    ∷ step (Schedule 0 good) (Ok Done) false
+    ∷ step (Check 0 511) (Err (without_place number.Sizes)) false
+    ∷ step (Check 0 512) (Ok (Judged Passed)) true
+    ∷ step (HandOut 0) (Ok HandedOut) true
     -- a damaged text leaves what is held: its second line names a label that the source does not declare
-    ∷ step (Schedule 0 (text "I 1 7;E nowhere;")) (Declined (record { number = number.Text fault.Label; line = 2; field = 2; layer = layer.Field })) true
-    ∷ step (Source 1 booking) (Declined (without_place number.Region)) true
-    ∷ step (Drop 0) Done false
-    ∷ step (HandOut 0) (Declined (without_place number.Source)) false
-    ∷ step (Source 0 booking) Done false
-    ∷ step (Schedule 0 good) Done false
-    ∷ step (Check 0 512) (Judged Passed) true
-    ∷ step (HandOut 0) HandedOut true
+    ∷ step (Schedule 0 (text "I 1 7;E nowhere;")) (Err (record { number = number.Text fault.Label; line = 2; field = 2; layer = layer.Field })) true
+    ∷ step (Source 1 booking) (Err (without_place number.Region)) true
+    ∷ step (Drop 0) (Ok Done) false
+    ∷ step (HandOut 0) (Err (without_place number.Source)) false
+    ∷ step (Source 0 booking) (Ok Done) false
+    ∷ step (Schedule 0 good) (Ok Done) false
+    ∷ step (Check 0 512) (Ok (Judged Passed)) true
+    ∷ step (HandOut 0) (Ok HandedOut) true
     ∷ []
 
 -- the events of steps, in front of those of es: the latest stands first

@@ -1,5 +1,5 @@
 -- The law over calls: what every list of calls on an opened shelf answers and leaves.
-use Rattle.std.specs.Prelude.{◌≡◌, ℕ, ◌<◌, ◌≤◌, min, Bool, true, false, List, [], ◌∷◌, ◌++◌, length, take, drop, Some, None, Ok, Err, Option, Result}
+use Rattle.std.specs.Prelude.{◌≡◌, ◌↔◌, ℕ, ◌<◌, ◌≤◌, min, Bool, true, false, List, [], ◌∷◌, ◌++◌, length, take, drop, Some, None, Ok, Err, Option, Result}
 use Rattle.domain.specs.Meaning.{Meaning}
 use Rattle.region.specs.declared.row.Row.{Row}
 use Rattle.region.specs.declared.side.Side.TheVariants as side
@@ -18,20 +18,14 @@ use Rattle.shelf.specs.declared.refusal.Refusal.{Refusal}
 use Rattle.shelf.specs.Calls.{open_answer, reading, run_answer, hand_out_answer, is_passed}
 use Rattle.shelf.specs.Refusals.{without_place}
 use Rattle.shelf.specs.Store.{KeptRegion, Store}
-use Rattle.replay.specs.declared.call.Answer.{Answer}
-use Rattle.replay.specs.declared.call.Answer.TheVariants.{Judged, HandedOut}
+use Rattle.replay.specs.declared.call.Granted.TheVariants.{Judged, HandedOut}
 use Rattle.replay.specs.declared.call.Call.{Call}
 use Rattle.replay.specs.Requests as call
 use Rattle.replay.specs.Events.{Event, history}
 use Rattle.replay.specs.Held.{Held, basis_of, verdict_of, held, passed, Untouched}
 use Rattle.replay.specs.Said.{source_line, schedule_line}
-use Rattle.replay.specs.Answers.{answer_to}
+use Rattle.replay.specs.Answers.{Answer, answer_to}
 use Rattle.replay.specs.Stored.{record_of, stored}
-
--- one holds exactly when the other does
-pub record Exactly (P Q : Type 0) : Type 0 where
-  pub forth : P → Q
-  pub back : Q → P
 
 -- What HAND-OUT answers of a region that holds these: the rows of the schedule, each at its place and blank rows
 -- elsewhere, where the schedule is passed; and else why not.
@@ -90,11 +84,11 @@ module _ {W : Type 0} (m : Meaning W) where
       pub answers : (later earlier : List Event) (e : Event) → es ≡ later ++ (e ∷ earlier)
           → e.answer ≡ answer_to m terms (stored n (λ r. held m r earlier)) e.call
       -- every granted CHECK gave a right verdict of what its region held then
-      pub checks : (later earlier : List Event) (r lent : ℕ) (v : Verdict) → es ≡ later ++ (record { call = call.Check r lent; answer = Judged v } ∷ earlier)
+      pub checks : (later earlier : List Event) (r lent : ℕ) (v : Verdict) → es ≡ later ++ (record { call = call.Check r lent; answer = Ok (Judged v) } ∷ earlier)
           → Rightly v (held m r earlier)
       -- a HAND-OUT was granted exactly when its region held a passed schedule then
       pub hand_outs : (later earlier : List Event) (r : ℕ) (a : Answer) → es ≡ later ++ (record { call = call.HandOut r; answer = a } ∷ earlier)
-          → Exactly (a ≡ HandedOut) (passed m r earlier ≡ true)
+          → (a ≡ Ok HandedOut) ↔ (passed m r earlier ≡ true)
       pub regions : (r : ℕ) → r < n → AtRegion st es r
 
   -- calls on a shelf with rows and labels, and the answers before and after them

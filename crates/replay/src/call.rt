@@ -13,14 +13,16 @@ pub enum Call<'a> {
     Drop { region: usize },
 }
 
-/// What a call answers.
+/// What a granted call answers.
 #[derive(Clone, Copy)]
-pub enum Answer {
-    /// A SOURCE, SCHEDULE or DROP was granted.
+pub enum Granted {
+    /// A SOURCE, SCHEDULE or DROP.
     Done,
-    /// A CHECK was granted, and this is its verdict.
+    /// A CHECK, and this is its verdict.
     Judged(Verdict),
-    /// A HAND-OUT was granted: it saw the schedule's rows.
+    /// A HAND-OUT: it saw the schedule's rows.
     HandedOut,
-    Declined(Refusal),
 }
+
+/// What a call answers.
+pub type Answer = Result<Granted, Refusal>;

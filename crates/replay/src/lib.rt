@@ -5,12 +5,11 @@
 //! which of them were granted; what passed runs like its source, and whatever the scheduler's moves derive passes.
 #![tactic(auto)]
 
-mod answering;
 mod call;
 mod example;
 mod making;
 mod replaying;
 
-pub use call::{Answer, Call};
+pub use call::{Answer, Call, Granted};
 pub use example::example_holds;
 pub use replaying::replay;

@@ -1,4 +1,5 @@
-// Calls, one after the other.
+// Calls, one after the other. What they work on stays four parameters: a struct of four `&mut` would have to say in each
+// contract that it still holds the same four.
 ghost use Rattle.std.specs.Prelude.{◌≡◌, ℕ, ◌≤◌, min, [], length, take, drop};
 ghost use Rattle.shelf.specs.Calls.{check_answer, check_put, settled};
 ghost use Rattle.shelf.specs.Store.{store};
@@ -7,7 +8,7 @@ ghost use Rattle.replay.specs.Requests.{asked};
 ghost use Rattle.replay.specs.Answers.{answer_to};
 ghost use Rattle.replay.specs.Steps.{Kept, store_after};
 
-use super::call::{Answer, Call};
+use super::call::{Answer, Call, Granted};
 use domain::Domain;
 use region::{LabelRow, Row};
 use shelf::{Refusal, Shelf};
@@ -27,7 +28,7 @@ fn check_lent<D: Domain>(
     ensures room { length terms.new ≡ length terms.old }
 {
     let count = lent.min(terms.len());
-    shelf.check::<D>(rows, labels, &mut terms[0..count], region)
+    shelf.check::<D>(rows, labels, &mut terms[..count], region)
 }
 
 /// Makes a call.
@@ -43,17 +44,21 @@ pub(crate) fn make<D: Domain>(
     ensures room { length terms.new ≡ length terms.old }
 {
     match call {
-        Call::Source { region, text } => {
-            Answer::done(shelf.put_source(rows, labels, region, text))
-        }
-        Call::Schedule { region, text } => {
-            Answer::done(shelf.put_schedule(rows, labels, region, text))
-        }
+        Call::Source { region, text } => shelf
+            .put_source(rows, labels, region, text)
+            .map(|()| Granted::Done),
+        Call::Schedule { region, text } => shelf
+            .put_schedule(rows, labels, region, text)
+            .map(|()| Granted::Done),
         Call::Check { region, lent } => {
-            Answer::judged(check_lent::<D>(shelf, rows, labels, terms, region, lent))
+            check_lent::<D>(shelf, rows, labels, terms, region, lent).map(Granted::Judged)
         }
-        Call::HandOut { region } => Answer::handed_out(shelf.hand_out(rows, labels, region)),
-        Call::Drop { region } => Answer::done(shelf.drop_region(rows, labels, region)),
+        Call::HandOut { region } => shelf
+            .hand_out(rows, labels, region)
+            .map(|_| Granted::HandedOut),
+        Call::Drop { region } => shelf
+            .drop_region(rows, labels, region)
+            .map(|()| Granted::Done),
     }
 }
 
@@ -71,7 +76,8 @@ pub(crate) fn make_all<D: Domain>(
     ensures beyond { drop (length calls.now) answers.new ≡ drop (length calls.now) answers.old }
     ensures room { length terms.new ≡ length terms.old }
 {
-    for i in 0..calls.len() {
-        answers[i] = make::<D>(shelf, rows, labels, terms, calls[i]);
+    // By index: tried as a zip with the answers, and the proof didn't close, since after it only their number is known.
+    for (i, call) in calls.iter().enumerate() {
+        answers[i] = make::<D>(shelf, rows, labels, terms, *call);
     }
 }

@@ -27,6 +27,6 @@ pub fn replay<D: Domain>(
 {
     let _ = shelf.open(rows, labels)?;
     let made = calls.len().min(answers.len());
-    make_all::<D>(shelf, rows, labels, terms, &calls[0..made], answers);
+    make_all::<D>(shelf, rows, labels, terms, &calls[..made], answers);
     Ok(made)
 }
