@@ -34,11 +34,11 @@ impl Model for Desk {
 }
 
 impl Desk {
-    /// A desk with room for so many regions, whose shelf was not opened.
-    pub fn new(heap: Global, regions: usize) -> Result<Desk, AllocError>
-        requires { regions ≤ 16 }
+    /// A desk with room for so many regions, whose shelf was not opened. A shelf takes 1 to 16 of them.
+    pub fn new(heap: Global, regions: u8) -> Result<Desk, AllocError>
         ensures { IfOk result (λ st. st ≡ unopened regions) }
     {
+        let regions = usize::from(regions);
         Ok(Desk {
             shelf: Shelf::new(),
             rows: vec![in heap; Row::blank(); regions * REGION_ROWS]?,

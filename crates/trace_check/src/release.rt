@@ -7,7 +7,7 @@ use std::fmt;
 use validator::Verdict;
 
 // How many regions the shelf has: a pair is put into the region of its number's remainder.
-pub(crate) const SHELF_PAIRS: usize = 16;
+pub(crate) const SHELF_PAIRS: u8 = 16;
 
 /// How many pairs came to each end. The sums saturate, as nothing says here how many pairs there are.
 #[derive(Clone, Copy, Default)]
@@ -81,7 +81,7 @@ impl Release {
         };
         let answer = self.desk.check(
             self.domain,
-            number % SHELF_PAIRS,
+            number % usize::from(SHELF_PAIRS),
             texts.source.bytes.as_slice(),
             texts.schedule.bytes.as_slice(),
         );

@@ -3,7 +3,7 @@ use super::listing::{NameText, RowText, label_text};
 use super::refusals::refused;
 use desk::Trouble;
 use domain::Domain;
-use region::{LabelRow, Outcome, Part, REGION_LABELS, REGION_ROWS, Row, Shape, Side};
+use region::{LabelRow, LineRows, Outcome, Part, REGION_LABELS, REGION_ROWS, Row, Side};
 use shelf::Shelf;
 use std::alloc::Global;
 use std::{fs, io};
