@@ -6,7 +6,7 @@ use std::alloc::Global;
 use std::fmt;
 use validator::Verdict;
 
-// How many regions the shelf has: a pair is put into the region of its number's remainder.
+// How many pairs one shelf takes.
 pub(crate) const SHELF_PAIRS: u8 = 16;
 
 /// How many pairs came to each end. The sums saturate, as nothing says here how many pairs there are.
@@ -58,19 +58,28 @@ struct Release {
 
 impl Release {
     fn new(heap: Global, domain: DomainName) -> Result<Release, Trouble> {
-        let mut desk = Desk::new(heap, SHELF_PAIRS)?;
-        if let Err(declined) = desk.open() {
-            return Err(Trouble::Said(format!(in heap; "refused {declined}")?));
-        }
         Ok(Release {
-            desk,
+            desk: Desk::new(heap, SHELF_PAIRS)?,
             domain,
             totals: Totals::default(),
         })
     }
 
-    // Checks a pair, prints what came of it, and counts it. Its source takes the place of the pair sixteen before it.
+    // Empties the shelf for the pairs to come.
+    fn open(&mut self, heap: Global) -> Result<(), Trouble> {
+        match self.desk.open() {
+            Ok(_) => Ok(()),
+            Err(declined) => Err(Trouble::Said(format!(in heap; "refused {declined}")?)),
+        }
+    }
+
+    // Checks a pair, prints what came of it, and counts it. Each shelf takes sixteen; the first of sixteen finds it
+    // emptied.
     fn check(&mut self, rt: &HostRuntime, number: usize, pair: &Pair) -> Result<(), Trouble> {
+        let region = number % usize::from(SHELF_PAIRS);
+        if region == 0 {
+            self.open(rt.alloc())?;
+        }
         let texts = match Texts::read(rt, pair) {
             Ok(texts) => texts,
             Err(unreadable) => {
@@ -81,7 +90,7 @@ impl Release {
         };
         let answer = self.desk.check(
             self.domain,
-            number % usize::from(SHELF_PAIRS),
+            region,
             texts.source.bytes.as_slice(),
             texts.schedule.bytes.as_slice(),
         );
