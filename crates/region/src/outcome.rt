@@ -2,6 +2,7 @@
 use super::numbers::LabelNumber;
 
 /// How a run ends: at a label, or by a trap.
+// No `Option` of a label: it stands in another's `Ok`, where a trap would read as if there were no run.
 #[derive(Clone, Copy)]
 pub enum Outcome {
     Reached(LabelNumber),

@@ -5,6 +5,7 @@ ghost use Rattle.std.specs.Prelude.{◌+◌, ◌^◌, ◌<◌, length};
 #[derive(Clone, Copy)]
 pub(crate) struct Line<'a> {
     pub(crate) bytes: &'a [u8],
+    // A flag: a last line without its LF has fields all the same, and is refused with its form.
     pub(crate) ended: bool,
     pub(crate) number: usize,
 }

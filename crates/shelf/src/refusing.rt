@@ -10,6 +10,7 @@ use validator::Unfit;
 
 impl Number {
     /// The number that is printed.
+    // No `as u8`: a text's fault has a number of its own.
     pub fn printed(self) -> u8
         ensures { result ≡ printed_number self }
     {

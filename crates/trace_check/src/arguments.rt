@@ -81,10 +81,7 @@ impl<'a> Arguments<'a> {
     }
 
     fn set_domain(&mut self, word: &'a str) -> Result<(), Misuse<'a>> {
-        let Ok(domain) = word.parse() else {
-            return Err(Misuse::UnknownDomain(word));
-        };
-        self.request.domain = domain;
+        self.request.domain = word.parse().map_err(|_| Misuse::UnknownDomain(word))?;
         self.next = Next::Any;
         Ok(())
     }

@@ -81,10 +81,7 @@ impl<'a> Arguments<'a> {
         match self.next {
             Next::Any => return self.begin(word),
             Next::Domain => {
-                let Ok(domain) = word.parse() else {
-                    return Err(Misuse::UnknownDomain(word));
-                };
-                self.domain = domain;
+                self.domain = word.parse().map_err(|_| Misuse::UnknownDomain(word))?;
             }
             Next::Schedule => self.schedule = Some(word),
         }
