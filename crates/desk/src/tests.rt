@@ -42,6 +42,27 @@ fn an_empty_desk_is_not_opened(rt: HostRuntime) -> Result<(), Fail> {
 }
 
 #[test]
+fn every_domain_has_its_word(rt: HostRuntime) {
+    let [w, t, kw, kt, kkw] = DomainName::ALL;
+    assert_eq!(rt; w.name(), "w");
+    assert_eq!(rt; t.name(), "t");
+    assert_eq!(rt; kw.name(), "kw");
+    assert_eq!(rt; kt.name(), "kt");
+    assert_eq!(rt; kkw.name(), "kkw");
+}
+
+#[test]
+fn a_desk_of_one_region_passes_a_schedule(rt: HostRuntime) -> Result<(), Fail> {
+    let mut desk = Desk::new(rt.alloc(), 1)?;
+    assert!(rt; matches!(desk.open(), Ok(1)));
+    let schedule = b"O\t1\t1\t3\t4\nE\tdone\n";
+    let answer = AnswerText(desk.check(DomainName::Trapping, 0, SOURCE, schedule));
+    let text = format!(in rt.alloc(); "{answer}")?;
+    assert_eq!(rt; text.as_str(), "passed");
+    Ok(())
+}
+
+#[test]
 fn words_name_domains(rt: HostRuntime) -> Result<(), Fail> {
     assert!(rt;
         matches!(

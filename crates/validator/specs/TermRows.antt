@@ -16,7 +16,8 @@ ordered (Operate o false a b) = Operate o false a b
 ordered (Load k a) = Load k a
 ordered (Store k a v) = Store k a v
 
--- two rows are equal where they are built alike, exchangeable operands in either order
+-- Two rows are equal where they are built alike, exchangeable operands in either order. The derived equality of rows is
+-- true exactly of one and the same row, which is shown in Equal: so this is the same as `ordered x ≡ ordered y`.
 abbrev pub row_equals : TermRow → TermRow → Bool
 row_equals x y = (eq.ghosts).eq (ordered x) (ordered y)
 
