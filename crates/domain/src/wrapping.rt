@@ -29,7 +29,7 @@ impl Domain for Wrapping {
             Op::Add => x.wrapping_add(y),
             Op::Sub => x.wrapping_sub(y),
             Op::Mul => x.wrapping_mul(y),
-            Op::Div => { if y == 0 { u32::MAX } else { x / y } }
+            Op::Div => x.checked_div(y).unwrap_or(u32::MAX),
             Op::Lt => u32::from(x < y),
             Op::Eq => u32::from(x == y),
             Op::And => x & y,
