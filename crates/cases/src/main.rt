@@ -37,7 +37,7 @@ fn serve(rt: &HostRuntime, paths: &[String]) -> anyhow::Result<()> {
     }
     let tally = bench.tally();
     println!(rt; "{tally}")?;
-    tally.verdict()
+    tally.ended()
 }
 
 fn start(rt: &HostRuntime) -> anyhow::Result<()> {

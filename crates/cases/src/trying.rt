@@ -30,8 +30,8 @@ impl Tally {
         self.differ = self.differ.saturating_add(1);
     }
 
-    /// Whether no answer differs.
-    pub(crate) fn verdict(self) -> anyhow::Result<()> {
+    /// An error where an answer differs.
+    pub(crate) fn ended(self) -> anyhow::Result<()> {
         if self.differ == 0 {
             Ok(())
         } else {

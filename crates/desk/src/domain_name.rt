@@ -50,6 +50,7 @@ impl FromStr for DomainName {
     ghost from_str_gives = { IsNamed };
 
     fn from_str(word: &str) -> Result<DomainName, UnknownDomain> {
+        // By match: tried as a find over `ALL`, and the proof didn't close.
         match word {
             "w" => Ok(DomainName::Wrapping),
             "t" => Ok(DomainName::Trapping),

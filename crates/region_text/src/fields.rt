@@ -9,7 +9,7 @@ use super::fault::{Fault, FieldFault, Spot};
 const BEYOND: u32 = 65536;
 
 /// What some of the numbers up to 65535 stand for.
-/// A trait of its own and not `TryFrom<u16>`, which may be written for a type in that type's own crate alone.
+/// A trait of its own and not `TryFrom<u16>`: by its law a decimal past 65535 is out of range whatever it was to stand for.
 pub(crate) trait Ranged: Sized {
     /// What a number stands for, if anything.
     ghost make: { ℕ → Option Self };

@@ -75,7 +75,7 @@ impl<'a> Body for SourceBody<'a> {
         }
     }
 
-    // The letters stand in one table here and in another for schedules, as in the definitions: what a letter means is read in one place.
+    // A table of all letters here and one for schedules, as the definitions have them, so that each can be laid beside its own.
     fn take_record(&mut self, letter: Letter, line: Line) -> Result<(), LineFault> {
         let number = line.number;
         match letter {

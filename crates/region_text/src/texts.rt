@@ -41,6 +41,7 @@ fn first_line(text: &[u8]) -> Option<(&[u8], bool, &[u8])>
     }
 }
 
+// No `split_inclusive`: no lemma of the library says what it yields.
 impl<'a> Iterator for Lines<'a> {
     type Item = Line<'a>;
 

@@ -76,7 +76,7 @@ pub(crate) fn make_all<D: Domain>(
     ensures beyond { drop (length calls.now) answers.new ≡ drop (length calls.now) answers.old }
     ensures room { length terms.new ≡ length terms.old }
 {
-    // By index: tried as a zip with the answers, and the proof didn't close, since after it only their number is known.
+    // By index: tried as a zip with the answers, and the proof didn't close, since nothing says then which of them were written.
     for (i, call) in calls.iter().enumerate() {
         answers[i] = make::<D>(shelf, rows, labels, terms, *call);
     }

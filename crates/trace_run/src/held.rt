@@ -8,7 +8,8 @@ use shelf::Shelf;
 use std::alloc::Global;
 use std::{fs, io};
 
-/// A shelf of one region, with its rows and labels. It is no `Desk`, which has room for a check and does not run.
+/// A shelf of one region, with its rows and labels. It is no `Desk`, which
+/// keeps its rows to itself: here they are printed.
 #[derive(Drop)]
 pub struct Held {
     shelf: Shelf,

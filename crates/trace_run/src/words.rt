@@ -6,7 +6,7 @@ use std::fmt;
 use std::num::TryFromIntError;
 use std::str::FromStr;
 
-/// A domain whose words are plain numbers.
+/// A domain whose words are plain numbers, as a file of words has them. No `DomainName` of `desk`: its tagged domains have none.
 #[derive(Clone, Copy)]
 pub enum NumberDomain {
     Wrapping,

@@ -7,7 +7,8 @@ use super::verdict::{Mismatch, Reason};
 use super::walk::{Reached, Walk};
 use region::{LabelNumber, LabelRow, REGION_LABELS};
 
-// The mask of the registers that hold different terms: bit i stands for register i.
+// The mask of the registers that hold different terms: bit i stands for register i. It meets the live mask of a label as
+// it is kept, and its trailing zeros name the lowest register.
 fn differing_mask(x: &[u16; 16], y: &[u16; 16]) -> u16
     ensures { Marks (unlike x.now y.now) 16 result }
 {
