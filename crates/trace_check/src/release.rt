@@ -67,10 +67,11 @@ impl Release {
 
     // Empties the shelf for the pairs to come.
     fn open(&mut self, heap: Global) -> Result<(), Trouble> {
-        match self.desk.open() {
-            Ok(_) => Ok(()),
-            Err(declined) => Err(Trouble::Said(format!(in heap; "refused {declined}")?)),
-        }
+        let _ = self
+            .desk
+            .open()
+            .try_map_err(|declined| Ok(Trouble::Said(format!(in heap; "refused {declined}")?)))?;
+        Ok(())
     }
 
     // Checks a pair, prints what came of it, and counts it. Each shelf takes sixteen; the first of sixteen finds it

@@ -84,17 +84,14 @@ pub(crate) fn read_words<D: Numeral>(
 ) -> Result<(), Trouble> {
     let mut lines = text.lines();
     for (count, word) in state.iter_mut().enumerate() {
-        let Some(line) = lines.next() else {
-            return Err(Trouble::Said(format!(in heap;
-                "{path}: {count} words, and a state has 80"
-            )?));
-        };
-        let Some(read) = read_word(line) else {
-            return Err(Trouble::Said(format!(in heap;
+        let line = lines.next().try_ok_or_else(|| {
+            Ok(Trouble::Said(format!(in heap; "{path}: {count} words, and a state has 80")?))
+        })?;
+        *word = read_word(line).try_ok_or_else(|| {
+            Ok(Trouble::Said(format!(in heap;
                 "{path}: word {count}, '{line}', is no word of this domain"
-            )?));
-        };
-        *word = read;
+            )?))
+        })?;
     }
     if lines.next().is_some() {
         return Err(Trouble::Said(format!(in heap; "{path}: more than 80 words")?));
