@@ -1,15 +1,15 @@
 -- Main rows, and the places that they make.
-use Rattle.std.proofs.Common.{◌≡◌, ℕ, zero, suc, ◌+◌, ◌-◌, cond, List, [], ◌∷◌, drop, sym, refl, ap, ◌∙◌}
+use Rattle.std.proofs.Common.{◌≡◌, ℕ, zero, suc, ◌+◌, ◌-◌, cond, List, [], ◌∷◌, sym, refl, ap, ◌∙◌}
 use Rattle.domain.specs.Meaning.{Meaning}
 use Rattle.region.specs.declared.row.Row.{Row}
 use Rattle.region.specs.declared.row.Row.TheVariants.{Act, Exit, Join}
 use Rattle.region.specs.Kept.{Kept}
 use Rattle.region.specs.Rows.{actions}
 use Rattle.region.specs.declared.side.Side.{Side}
-use Rattle.region.specs.Layout.{exit_rows, join_rows, main_rows}
+use Rattle.region.specs.Layout.{exit_rows}
 use Rattle.region.specs.Lines.{Start, entered, missing, places_of, assembled}
 use Rattle.region.specs.Machine.{Ended, word, step, onward, perform, reached, run_places, run}
-use Rattle.region.specs.Entries.{Enters}
+use Rattle.region.specs.Entries.{start_of}
 use Rattle.machine.specs.Straight.{run_rows}
 
 module _ {W : Type 0} (m : Meaning W) (part : List Row) (sh : Kept) where
@@ -25,27 +25,14 @@ module _ {W : Type 0} (m : Meaning W) (part : List Row) (sh : Kept) where
   places_run k j zero (Join ∷ rs) σ = places_run k j zero rs σ
   places_run k j (suc n) (Join ∷ rs) σ = places_run k (suc j) n rs σ
 
-  -- a run from entry 0, and one from below a join
-  pub run_top : (side : Side) (e : ℕ) (main : List Row) (σ : List W) (z : Ended W) → e ≡ 0 → main ≡ main_rows side part sh → z ≡ run_rows m part sh 0 main σ
-      → z ≡ run m (assembled side part sh) e σ
-  run_top side e main σ z p q h =
-      h ∙ ap (λ rs. run_rows m part sh 0 rs σ) q ∙ sym (places_run 0 0 sh.joins (main_rows side part sh) σ)
-      ∙ ap (λ n. run m (assembled side part sh) n σ) (sym p)
+  run_start : List W → Start → Ended W
+  run_start σ s = perform m s.piece σ (run_places m sh.end s.places)
 
-  module _ (side : Side) (e j : ℕ) (main : List Row) (place exits : ℕ) (σ : List W) (p : e ≡ suc j) (q : main ≡ main_rows side part sh)
-      (h : Enters part sh j sh.joins main place exits) where
-    run_start : Start → Ended W
-    run_start s = perform m s.piece σ (run_places m sh.end s.places)
-
-    -- y is what the join's piece and the rows below the join come to
-    pub run_below : (piece : List Row) (y : Ended W) → piece ≡ join_rows part sh j → perform m (actions piece) σ (run_rows m part sh exits (drop place main)) ≡ y
-        → y ≡ run m (assembled side part sh) e σ
-    unfolding run_start
-    run_below piece y g d =
-        sym
-        (ap (λ n. run m (assembled side part sh) n σ) p
-        ∙ ap (λ rs. run_start (entered (suc j) (places_of part sh 0 0 sh.joins rs))) (sym q)
-        ∙ ap run_start h
-        ∙ ap (perform m (actions (join_rows part sh j)) σ) (λ i τ. places_run exits (suc j) (sh.joins - suc j) (drop place main) τ i)
-        ∙ ap (λ rs. perform m (actions rs) σ (run_rows m part sh exits (drop place main))) (sym g)
-        ∙ d)
+  -- the run from entry e is y, to which a piece and the rows ahead come
+  pub run_entered : (side : Side) (e exits : ℕ) (piece ahead : List Row) (σ : List W) (y : Ended W)
+      → entered e (assembled side part sh).places ≡ start_of part sh e exits piece ahead
+      → perform m (actions piece) σ (run_rows m part sh exits ahead) ≡ y
+      → y ≡ run m (assembled side part sh) e σ
+  unfolding run_start
+  run_entered side e exits piece ahead σ y h d =
+      sym (ap (run_start σ) h ∙ ap (perform m (actions piece) σ) (λ i τ. places_run exits e (sh.joins - e) ahead τ i) ∙ d)

@@ -1,7 +1,7 @@
 // Runs of a line where it lies.
 use super::state::State;
 use domain::Domain;
-use region::{LabelNumber, LineRows, Piece, Position, Row, below};
+use region::{Entered, LabelNumber, LineRows, Piece, Row};
 
 impl<D: Domain> State<'_, D> {
     ghost use Rattle.std.specs.Prelude.{◌≡◌, ◌+◌, ◌≤◌, length};
@@ -40,12 +40,12 @@ impl<D: Domain> State<'_, D> {
         ensures run { ended D.meaning result self.new.words.now ≡ run_of D.meaning (assembled line.entry.side (rows_of line.entry.part) (kept line.entry.shape)) entry self.old.words.now }
         ensures same { self.new.words.ghost_name ≡ self.old.words.ghost_name }
     {
-        let main = line.main();
-        if entry == 0 {
-            return self.run_rows(line, main, 0);
-        }
-        let Position { place, exits } = below(main, entry - 1);
-        self.perform(line.piece(Piece::OfJoin(entry - 1)))?;
-        self.run_rows(line, &main[place..], exits)
+        let Entered {
+            piece,
+            ahead,
+            exits,
+        } = line.entered(entry);
+        self.perform(piece)?;
+        self.run_rows(line, ahead, exits)
     }
 }

@@ -14,12 +14,11 @@ mod outcome;
 mod part;
 mod piece;
 mod piece_rows;
-mod position;
 mod row;
 mod shape;
 mod side;
 
-pub use entering::below;
+pub use entering::Entered;
 pub use full::Full;
 pub use label::{LabelRow, Name};
 pub use layout::{
@@ -33,7 +32,6 @@ pub use outcome::{Misfit, Outcome};
 pub use part::Part;
 pub use piece::Piece;
 pub use piece_rows::PieceRows;
-pub use position::Position;
 pub use row::{Action, Row};
 pub use shape::Shape;
 pub use side::Side;

@@ -1,5 +1,5 @@
 -- Where walks begin, and the places that main rows make.
-use Rattle.std.proofs.Common.{◌≡◌, ℕ, zero, suc, ◌+◌, ◌-◌, ◌<◌, ◌≤◌, Bool, false, ◌≢◌, ◌⊎◌, List, [], ◌∷◌, length, get_or, drop, set, replicate, Some, None, sym, refl, ap, ◌∙◌, subst, inl, inr, arith}
+use Rattle.std.proofs.Common.{◌≡◌, ℕ, zero, suc, ◌+◌, ◌-◌, ◌<◌, ◌≤◌, Bool, false, ◌≢◌, ◌⊎◌, List, [], ◌∷◌, length, get_or, set, replicate, Some, None, sym, refl, ap, ◌∙◌, subst, inl, inr, arith}
 use Rattle.std.proofs.lemmas.Bool.{cases_lt}
 use Rattle.std.proofs.lemmas.List.{get_or-set_same, get_or-set_other}
 use Rattle.domain.specs.declared.op.Op.{Op}
@@ -8,10 +8,10 @@ use Rattle.region.specs.declared.row.Row.{Row}
 use Rattle.region.specs.declared.row.Row.TheVariants.{Act, Exit, Join}
 use Rattle.region.specs.Kept.{Kept}
 use Rattle.region.specs.declared.side.Side.{Side}
-use Rattle.region.specs.Layout.{exit_rows, join_rows, main_rows}
-use Rattle.region.specs.Lines.{Start, joins, missing, places_of, assembled}
+use Rattle.region.specs.Layout.{exit_rows, main_rows}
+use Rattle.region.specs.Lines.{Start, entered, joins, missing, places_of, assembled}
 use Rattle.region.specs.Rows.{actions}
-use Rattle.region.specs.Entries.{Enters}
+use Rattle.region.specs.Entries.{start_of}
 use Rattle.validator.specs.declared.term_row.TermRow.{TermRow}
 use Rattle.validator.specs.declared.walk.Walk.{Walk}
 use Rattle.validator.specs.Terms.{Term, register_at_entry, bank_at_entry}
@@ -19,7 +19,7 @@ use Rattle.validator.specs.Walks.{Basis, basis, Symbols, Stop, at_entry, follow,
 use Rattle.validator.specs.Tidy.{Tidy, Names, Interned}
 use Rattle.validator.specs.Straight.{walk_rows}
 use Rattle.validator.specs.Means.{Marked, none, Means, Named, Begun, Liveness, Does, Onward}
-use Rattle.validator.proofs.Interning.{tidy_none, kept_all, grown_then}
+use Rattle.validator.proofs.Interning.{tidy_none, grown_then}
 
 module _ (c : Op → Bool) where
   pub named_more : {xs ys zs : List TermRow} (ns : List ℕ) (f : ℕ → Term) (i n : ℕ) → i < length ns → Named c xs ys ns f i → Interned c ys zs n (f i)
@@ -61,19 +61,14 @@ module _ (β : Basis) (part : List Row) (sh : Kept) where
   places_walk k j zero (Join ∷ rs) s = places_walk k j zero rs s
   places_walk k j (suc n) (Join ∷ rs) s = places_walk k (suc j) n rs s
 
-  -- from entry 0, and from below a join
-  walk_top : (side : Side) → walk β (assembled side part sh) 0 ≡ walk_rows β part sh 0 (main_rows side part sh) at_entry
-  walk_top side = places_walk 0 0 sh.joins (main_rows side part sh) at_entry
-
   walk_start : Start → List Stop
   walk_start s = walk_places β sh.end s.places (follow_all β s.piece at_entry)
 
-  walk_below : (side : Side) (j place exits : ℕ) → Enters part sh j sh.joins (main_rows side part sh) place exits
-      → walk β (assembled side part sh) (suc j) ≡ walk_rows β part sh exits (drop place (main_rows side part sh)) (follow_all β (actions (join_rows part sh j)) at_entry)
+  -- from an entry, by its piece and the rows ahead
+  walk_entered : (side : Side) (e exits : ℕ) (piece ahead : List Row) → entered e (assembled side part sh).places ≡ start_of part sh e exits piece ahead
+      → walk β (assembled side part sh) e ≡ walk_rows β part sh exits ahead (follow_all β (actions piece) at_entry)
   unfolding walk_start
-  walk_below side j place exits h =
-      ap walk_start h
-      ∙ places_walk exits (suc j) (sh.joins - suc j) (drop place (main_rows side part sh)) (follow_all β (actions (join_rows part sh j)) at_entry)
+  walk_entered side e exits piece ahead h = ap walk_start h ∙ places_walk exits e (sh.joins - e) ahead (follow_all β (actions piece) at_entry)
 
 -- a line has as many joins as are kept
 joins_of : (part : List Row) (sh : Kept) (k j n : ℕ) (rows : List Row) → joins (places_of part sh k j n rows) ≡ n
@@ -89,26 +84,11 @@ joins_kept side part sh = joins_of part sh 0 0 sh.joins (main_rows side part sh)
 
 module _ {W : Type 0} (m : Meaning W) (live : Liveness) (side : Side) (part : List Row) (sh : Kept) (e : ℕ) {xs : List TermRow} {w : Walk}
     (tidy : Tidy m.commutes xs) (means : Means m.commutes xs w at_entry) where
-  module _ {main : List Row} (main_is : main ≡ main_rows side part sh) where
-    pub enter_top : e ≡ 0 → Onward m.commutes xs xs w (walk_rows (basis m live) part sh 0 main) (walk (basis m live) (assembled side part sh) e)
-    enter_top z = record {
-      symbols = at_entry;
-      follows = record { grown = kept_all m.commutes xs tidy; means = means };
-      ahead_are =
-          ap (λ rs. walk_rows (basis m live) part sh 0 rs at_entry) main_is
-          ∙ sym (walk_top (basis m live) part sh side)
-          ∙ ap (walk (basis m live) (assembled side part sh)) (sym z);
-    }
-
-    pub enter_join : (j place exits : ℕ) {piece rest : List Row} {ys : List TermRow} {v : Walk} → e ≡ suc j → rest ≡ drop place main → Enters part sh j sh.joins main place exits
-        → piece ≡ join_rows part sh j → Does m xs w ys v (λ β. follow_all β (actions piece))
-        → Onward m.commutes xs ys v (walk_rows (basis m live) part sh exits rest) (walk (basis m live) (assembled side part sh) e)
-    enter_join j place exits {piece = piece} {rest = rest} {ys = ys} {v = v} z rest_is h piece_is does = record {
-      symbols = follow_all (basis m live) (actions piece) at_entry;
-      follows = does live at_entry tidy means;
-      ahead_are =
-          ap (λ rs. walk_rows (basis m live) part sh exits rs (follow_all (basis m live) (actions piece) at_entry)) (rest_is ∙ ap (drop place) main_is)
-          ∙ ap (λ rs. walk_rows (basis m live) part sh exits (drop place (main_rows side part sh)) (follow_all (basis m live) (actions rs) at_entry)) piece_is
-          ∙ sym (walk_below (basis m live) part sh side j place exits (rw main_is at h))
-          ∙ ap (walk (basis m live) (assembled side part sh)) (sym z);
-    }
+  pub comes_in : (exits : ℕ) (piece ahead : List Row) {ys : List TermRow} {v : Walk} → entered e (assembled side part sh).places ≡ start_of part sh e exits piece ahead
+      → Does m xs w ys v (λ β. follow_all β (actions piece))
+      → Onward m.commutes xs ys v (walk_rows (basis m live) part sh exits ahead) (walk (basis m live) (assembled side part sh) e)
+  comes_in exits piece ahead h does = record {
+    symbols = follow_all (basis m live) (actions piece) at_entry;
+    follows = does live at_entry tidy means;
+    ahead_are = sym (walk_entered (basis m live) part sh side e exits piece ahead h);
+  }

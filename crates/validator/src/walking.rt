@@ -4,7 +4,7 @@ ghost use Rattle.std.specs.Prelude.{◌≡◌, ◌+◌, ◌<◌, ◌≤◌, true
 use super::terms::Terms;
 use super::walk::{Reached, Walk};
 use domain::Domain;
-use region::{LineRows, Piece, Position, Row, below};
+use region::{Entered, LineRows, Piece, Row};
 
 /// A walk of a line: the main rows ahead, how many exits are above them, and the symbolic state there.
 #[derive(Drop)]
@@ -31,22 +31,16 @@ impl<'a> Walker<'a> {
         ensures few { length terms.new ≤ length terms.old + 16 }
         ensures onward { ComesIn D.meaning line.entry entry terms.old start.now terms.new result }
     {
-        let main = line.main();
+        let Entered {
+            piece,
+            ahead,
+            exits,
+        } = line.entered(entry as usize);
         let mut walk = *start;
-        if entry == 0 {
-            return Walker {
-                line,
-                ahead: main,
-                exits: 0,
-                walk,
-            };
-        }
-        let join = entry as usize - 1;
-        let Position { place, exits } = below(main, join);
-        walk.acts::<D>(terms, line.piece(Piece::OfJoin(join)));
+        walk.acts::<D>(terms, piece);
         Walker {
             line,
-            ahead: &main[place..],
+            ahead,
             exits,
             walk,
         }
