@@ -1,7 +1,7 @@
 -- Numbers differ where their terms do.
 use Rattle.std.proofs.Common.{◌≡◌, ℕ, zero, suc, ◌≤◌, Bool, true, false, not, ◌&&◌, ◌||◌, eqb, ◌⊎◌, List, length, get_or, set, replicate, Some, None, Option, sym, refl, ap, ◌∙◌, ap₂, inl, inr, arith}
 use Rattle.std.specs.Bool.{beq}
-use Rattle.std.specs.Cmp.{booleans_Decides}
+use Rattle.std.specs.Cmp.{booleans_Decides, both_ways as same_answer}
 use Rattle.std.specs.Cmp.Lexicographic.{pointwise}
 use Rattle.std.proofs.lemmas.Slice.Eq.{slice_eq-Decides}
 use Rattle.std.proofs.lemmas.Bool.{eqb-true, eqb-false, and_parts, and_from, both_ways, cases_eq}
@@ -27,11 +27,6 @@ unmarked : (m n : ℕ) → get_or (replicate m false) n false ≡ false
 unmarked zero n = refl
 unmarked (suc m) zero = refl
 unmarked (suc m) (suc n) = unmarked m n
-
-both : (a b : Bool) → (a ≡ true → b ≡ true) → (b ≡ true → a ≡ true) → a ≡ b
-both true b f g = sym (f refl)
-both false true f g = g refl
-both false false f g = refl
 
 module _ (c : Op → Bool) (xs : List TermRow) (tidy : Tidy c xs) (size : length xs ≤ 512) where
   marked_length : (h : List Bool) (ts : List Term) → Marked c xs h ts → length h ≡ 512
@@ -88,7 +83,7 @@ module _ (c : Op → Bool) (xs : List TermRow) (tidy : Tidy c xs) (size : length
       same_from_decides _ _ (slice_eq-Decides booleans_Decides h k _ refl) (
         (λ e.
             let w = and_parts (within (same c) ts us) (within (same c) us ts) e in
-            ext_get_or false h k (lh ∙ sym lk) (λ i l. both _ _ (within_to k us q h ts p w.0 i) (within_to h ts p k us q w.1 i))),
+            ext_get_or false h k (lh ∙ sym lk) (λ i l. same_answer _ _ (within_to k us q h ts p w.0 i) (within_to h ts p k us q w.1 i))),
         (λ e.
             and_from (within (same c) ts us) (within (same c) us ts)
             (within_from k us q h ts p (λ n x. ap (λ j. get_or j n false) (sym e) ∙ x))
