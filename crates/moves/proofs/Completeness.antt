@@ -7,7 +7,8 @@ use Rattle.validator.specs.Terms.{Term}
 use Rattle.validator.specs.Walks.{Basis, basis, Symbols, Stop, at_entry, walk}
 use Rattle.moves.specs.Moves.{Derived, unmoved, moved}
 use Rattle.moves.specs.Theorems.{Complete}
-use Rattle.moves.proofs.Same.{to_test, within_seen}
+use Rattle.validator.proofs.Same.{same_so_test}
+use Rattle.moves.proofs.Same.{within_seen}
 use Rattle.moves.proofs.Found.{Conditions, Match, MatchAll, passes}
 use Rattle.moves.proofs.States.{near_refl}
 use Rattle.moves.proofs.Walks.{Seen, Alongside, at_end, at_exit, Even, even_trans, even_refl, under, moved_even}
@@ -18,15 +19,15 @@ module _ (β : Basis) where
   match c c' l s s' h near = record {
     condition = h;
     label = refl;
-    registers = λ i _ on. to_test _ (near.registers i (ap not on));
-    banks = λ k _. to_test _ (near.banks k);
+    registers = λ i _ on. same_so_test _ (near.registers i (ap not on));
+    banks = λ k _. same_so_test _ (near.banks k);
     forth = within_seen β.commutes s.traps s'.traps (λ x h. sym (near.traps x) ∙ h);
     back = within_seen β.commutes s'.traps s.traps (λ x h. near.traps x ∙ h);
   }
 
   match_all : {xs ys : List Stop} → Alongside β xs ys → MatchAll β xs ys
   match_all (at_end c) = (match None None _ _ _ tt c, tt)
-  match_all (at_exit e c rest) = (match (Some _) (Some _) _ _ _ (to_test _ e) c, match_all rest)
+  match_all (at_exit e c rest) = (match (Some _) (Some _) _ _ _ (same_so_test _ e) c, match_all rest)
 
   derived : {source schedule : Line} → Derived β source schedule → Even β source schedule
   derived {source} unmoved = even_refl β source.end source.places

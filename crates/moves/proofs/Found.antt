@@ -16,15 +16,12 @@ use Rattle.validator.specs.Comparison.{differ_condition, differ, stops_differ, v
 abbrev Silent : Option Mismatch → Type 0 → Type 0
 Silent x P = (x ≡ None → P) × (P → x ≡ None)
 
-some_none : {X : Type 0} (x : Mismatch) → Some x ≡ None → X
-some_none x e = let z : ◌≡◌ {A = ℕ} 0 1 = cc in absurd (omega arith)
-
 silent_or : {P Q : Type 0} (x y : Option Mismatch) → Silent x P → Silent y Q → Silent (x or_else y) (P × Q)
 silent_or None y p q = (λ h. (p.0 refl, q.0 h), λ h. q.1 h.1)
-silent_or (Some a) y p q = (some_none a, λ h. some_none a (p.1 h.0))
+silent_or (Some a) y p q = (λ h. cc, λ h. let z = p.1 h.0 in cc)
 
 silent_found : {P : Type 0} (e n : ℕ) (differs : Bool) (r : Reason) (i : ℕ) → (differs ≡ false → P) → (P → differs ≡ false) → Silent (found e n differs r i) P
-silent_found e n true r i f g = (some_none _, λ p. absurd (true≢false (g p)))
+silent_found e n true r i f g = (λ h. cc, λ p. absurd (true≢false (g p)))
 silent_found e n false r i f g = (λ _. f refl, λ _. refl)
 
 silent_below : (P : ℕ → Type 0) (n : ℕ) (f : ℕ → Option Mismatch) → ((i : ℕ) → Silent (f i) (P i)) → Silent (first_below n f) ((i : ℕ) → i < n → P i)
@@ -74,8 +71,8 @@ module _ (β : Basis) where
   module _ (e n : ℕ) where
     conditions : (b c : Option Term) → Silent (differ_condition β e n b c) (Conditions b c)
     conditions None None = (λ _. tt, λ _. refl)
-    conditions None (Some c) = (some_none _, λ h. absurd h)
-    conditions (Some b) None = (some_none _, λ h. absurd h)
+    conditions None (Some c) = (λ h. cc, λ h. absurd h)
+    conditions (Some b) None = (λ h. cc, λ h. absurd h)
     conditions (Some b) (Some c) = silent_found e n (not (alike b c)) reason.Condition 0 (not-false _) (ap not)
 
     stop : (x y : Stop) → Silent (differ β e n x y) (Match x y)
@@ -110,7 +107,7 @@ module _ (β : Basis) where
 
   nothing : (x : Option Mismatch) → verdict x ≡ Passed → x ≡ None
   nothing None h = refl
-  nothing (Some x) h = let z : ◌≡◌ {A = ℕ} 0 1 = cc in absurd (omega arith)
+  nothing (Some x) h = cc
 
   pub passed : (src sch : Line) → comparison β src sch ≡ Passed → Matching src sch
   passed src sch h = (lines src sch).0 (nothing (mismatch β src sch) h)

@@ -10,7 +10,8 @@ use Rattle.validator.specs.Terms.{Term, same, Same, same_literal, same_operate, 
 use Rattle.validator.specs.Walks.{Basis, Symbols, writes, stores, term, may_trap_at, follow, follow_all}
 use Rattle.validator.specs.Comparison.{member}
 use Rattle.moves.specs.Moves.{reads, loads, any_reads, Untouched, Independent}
-use Rattle.moves.proofs.Same.{itself, back, through, to_seen}
+use Rattle.validator.proofs.Same.{same_refl, same_sym, same_trans}
+use Rattle.moves.proofs.Same.{to_seen}
 
 pub unless : (a b : Bool) → (a ≡ true → b ≡ false) → b ≡ true → a ≡ false
 unless true b h t = sym t ∙ h refl
@@ -38,15 +39,15 @@ module _ (β : Basis) where
   Near s s' = Close (λ _. false) s s'
 
   pub near_refl : (s : Symbols) → Near s s
-  near_refl s = record { registers = λ i _. itself _ (s.register i); banks = λ k. itself _ (s.bank k); traps = λ x. refl }
+  near_refl s = record { registers = λ i _. same_refl _ (s.register i); banks = λ k. same_refl _ (s.bank k); traps = λ x. refl }
 
   pub close_sym : {off : ℕ → Bool} {s t : Symbols} → Close off s t → Close off t s
-  close_sym p = record { registers = λ i h. back _ (p.registers i h); banks = λ k. back _ (p.banks k); traps = λ x. sym (p.traps x) }
+  close_sym p = record { registers = λ i h. same_sym _ (p.registers i h); banks = λ k. same_sym _ (p.banks k); traps = λ x. sym (p.traps x) }
 
   pub close_trans : {off : ℕ → Bool} {s t u : Symbols} → Close off s t → Close off t u → Close off s u
   close_trans p q = record {
-    registers = λ i h. through _ (p.registers i h) (q.registers i h);
-    banks = λ k. through _ (p.banks k) (q.banks k);
+    registers = λ i h. same_trans _ (p.registers i h) (q.registers i h);
+    banks = λ k. same_trans _ (p.banks k) (q.banks k);
     traps = λ x. p.traps x ∙ q.traps x;
   }
 
@@ -106,20 +107,20 @@ module _ (β : Basis) where
   -- two neighbours in either order
   crossed : (p q : Bool) (u : Term) {a a' b b' : Term} → Alike a' a → Alike b' b → (p ≡ true → q ≡ false) → Alike (cond q b' (cond p a u)) (cond p a' (cond q b u))
   crossed true true u e f h = absurd (true≢false (h refl))
-  crossed true false u e f h = back _ e
+  crossed true false u e f h = same_sym _ e
   crossed false true u e f h = f
-  crossed false false u e f h = itself _ u
+  crossed false false u e f h = same_refl _ u
 
   crossed_traps : (x : Term) (p q : Bool) (ts : List Term) {a a' b b' : Term} → Alike a' a → Alike b' b
       → noted x (cond q (b' ∷ cond p (a ∷ ts) ts) (cond p (a ∷ ts) ts)) ≡ noted x (cond p (a' ∷ cond q (b ∷ ts) ts) (cond q (b ∷ ts) ts))
   crossed_traps x true true ts {a} {a'} {b} {b'} e f =
-      (λ i. to_seen _ f i x || (to_seen _ (back _ e) i x || noted x ts)) ∙ or_left_comm (same β.commutes x b) (same β.commutes x a') (noted x ts)
-  crossed_traps x true false ts e f = λ i. to_seen _ (back _ e) i x || noted x ts
+      (λ i. to_seen _ f i x || (to_seen _ (same_sym _ e) i x || noted x ts)) ∙ or_left_comm (same β.commutes x b) (same β.commutes x a') (noted x ts)
+  crossed_traps x true false ts e f = λ i. to_seen _ (same_sym _ e) i x || noted x ts
   crossed_traps x false true ts e f = λ i. to_seen _ f i x || noted x ts
   crossed_traps x false false ts e f = refl
 
   other : (b : Bool) (t u : Term) → b ≡ false → Alike (cond b t u) u
-  other b t u h = rw h (itself _ u)
+  other b t u h = rw h (same_refl _ u)
 
   undisturbed : (a b : Action) (s : Symbols) → Untouched a b → Alike (term b (follow β a s)) (term b s)
   undisturbed a b s c = term_only b (follow β a s) s

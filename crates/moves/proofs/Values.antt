@@ -8,7 +8,7 @@ use Rattle.validator.specs.Terms.{Term, register_at_entry, bank_at_entry, litera
 use Rattle.validator.specs.Terms.{Same, same_register, same_bank, same_literal, same_operate, same_turned, same_load, same_store}
 use Rattle.validator.specs.Comparison.{member, within}
 use Rattle.moves.specs.Theorems.{bank}
-use Rattle.moves.proofs.Same.{from_test}
+use Rattle.validator.proofs.Same.{test_so_same}
 
 abbrev pub missing : {X : Type 0} → Option X → Bool
 missing None = true
@@ -52,7 +52,7 @@ module _ {W : Type 0} (m : Meaning W) where
       alike (same_store p q r) = rw (alike p, alike q, alike r)
 
       pub alike_test : (t u : Term) → same m.commutes t u ≡ true → outcome t ≡ outcome u
-      alike_test t u h = alike (from_test m.commutes t u h)
+      alike_test t u h = alike (test_so_same m.commutes t u h)
 
       member_dirty : (t : Term) (us : List Term) → member (same m.commutes) t us ≡ true → missing (outcome t) ≡ true → dirty us ≡ true
       member_dirty t [] h d = absurd (false≢true h)

@@ -8,7 +8,7 @@ use Rattle.region.specs.Lines.{Place, act, exit, join, Line, joins}
 use Rattle.validator.specs.Terms.{Term}
 use Rattle.validator.specs.Walks.{Basis, Symbols, Stop, at_entry, writes, follow, follow_all, walk_places, walk}
 use Rattle.moves.specs.Moves.{Spot, main_line, exit_piece, join_piece, standing, Move, swap, sink, unsink, lift, rise, unrise, turn, line}
-use Rattle.moves.proofs.Same.{back, through}
+use Rattle.validator.proofs.Same.{same_sym, same_trans}
 use Rattle.moves.proofs.States.{unless, Alike, Close, Near, near_refl, close_sym, close_trans, follow_near, follow_all_close, follow_append}
 use Rattle.moves.proofs.States.{Interchange, unchanged, inside, swapped, turned, lifted, unwritten}
 
@@ -25,11 +25,11 @@ module _ (β : Basis) where
 
   along_sym : {xs ys : List Stop} → Alongside xs ys → Alongside ys xs
   along_sym (at_end c) = at_end (close_sym β c)
-  along_sym (at_exit e c rest) = at_exit (back _ e) (close_sym β c) (along_sym rest)
+  along_sym (at_exit e c rest) = at_exit (same_sym _ e) (close_sym β c) (along_sym rest)
 
   along_trans : {xs ys zs : List Stop} → Alongside xs ys → Alongside ys zs → Alongside xs zs
   along_trans (at_end c) (at_end c') = at_end (close_trans β c c')
-  along_trans (at_exit e c rest) (at_exit e' c' rest') = at_exit (through _ e e') (close_trans β c c') (along_trans rest rest')
+  along_trans (at_exit e c rest) (at_exit e' c' rest') = at_exit (same_trans _ e e') (close_trans β c c') (along_trans rest rest')
 
   -- registers that are off are dead at the label
   abbrev Dead : LabelNumber → (ℕ → Bool) → Type 0

@@ -3,3 +3,4 @@ pub mod Whole
 pub mod Filling
 pub mod Schedules
 pub mod Pieces
+pub mod Laid

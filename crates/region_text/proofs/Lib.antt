@@ -1,5 +1,4 @@
 pub mod Splits
 pub mod Digits
 pub mod Lookups
-pub mod Laying
 pub mod Fits

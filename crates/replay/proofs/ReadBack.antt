@@ -1,7 +1,6 @@
 -- The lines that are read from a region's rows are those that the texts say.
-use Rattle.std.proofs.Common.{◌≡◌, ℕ, zero, suc, ◌+◌, ◌-◌, ◌*◌, ◌≤◌, eqb, List, [], ◌∷◌, ◌++◌, map, length, get_or, take, drop, replicate, sym, refl, ap, ◌∙◌, ap₂, append_assoc, zero-add, add-one, one-add, arith, length-append, drop-drop, take_at, drop_at}
+use Rattle.std.proofs.Common.{◌≡◌, ℕ, zero, suc, ◌+◌, ◌*◌, eqb, List, [], ◌∷◌, ◌++◌, map, length, get_or, take, drop, replicate, sym, refl, ap, ◌∙◌, ap₂, append_assoc, zero-add, add-one, one-add, arith, length-append, drop-drop, drop_at}
 use mathlib.Core.Path.{fun_ext}
-use lib.ListN.{length-replicate}
 use Rattle.std.proofs.lemmas.List.{append-nil}
 use Rattle.region.specs.declared.label.LabelRow.{LabelRow}
 use Rattle.region.specs.declared.row.Row.{Row}
@@ -14,28 +13,12 @@ use Rattle.region.specs.Lines.{act, exit, join, joins, places_of, assembled}
 use Rattle.region.specs.Listing.{source_kept, schedule_kept}
 use Rattle.region.specs.Pieces.{laid_pieces, schedule_rows}
 use Rattle.region.specs.Rows.{actions, blank, joins_in, laid}
+use Rattle.region.proofs.Laid.{get_or_repeated, length_laid, take_laid, laid_else}
 use Rattle.region_text.specs.Schedules.{Schedule}
 use Rattle.region_text.specs.Sources.{Source}
 use Rattle.validator.specs.Live.{bit, live_in}
 use Rattle.replay.specs.Said.{placed, source_line, schedule_line}
 use Rattle.region_text.proofs.Fits.{Short, ScheduleFits}
-
-module _ {X : Type 0} where
-  pub length_laid : (n : ℕ) (x : X) (xs : List X) → length xs ≤ n → length (laid n x xs) ≡ n
-  length_laid n x xs h = simp (length-append, length-replicate) (omega arith)
-
-  pub take_laid : (n : ℕ) (x : X) (xs rest : List X) → take (length xs) (laid n x xs ++ rest) ≡ xs
-  take_laid n x xs rest = ap (take (length xs)) (append_assoc xs (replicate (n - length xs) x) rest) ∙ take_at xs _ (length xs) refl
-
-  get_d_replicate : (k i : ℕ) (d : X) → get_or (replicate k d) i d ≡ d
-  get_d_replicate zero i d = refl
-  get_d_replicate (suc k) zero d = refl
-  get_d_replicate (suc k) (suc i) d = get_d_replicate k i d
-
-  pub getD_laid : (xs : List X) (k i : ℕ) (d : X) → get_or (xs ++ replicate k d) i d ≡ get_or xs i d
-  getD_laid [] k i d = get_d_replicate k i d
-  getD_laid (x ∷ xs) k zero d = refl
-  getD_laid (x ∷ xs) k (suc i) d = getD_laid xs k i d
 
 -- the places of rows whose exits and joins have these pieces
 module _ (part : List Row) (sh : Kept) (exits entries : List (List Row))
@@ -70,7 +53,7 @@ source_back s rest = λ i. record { places = places i; end = s.end }
     sh = source_kept s.rows s.end
 
     none : (k n at : ℕ) → take (get_or (replicate n 0) k 0) (drop at (laid 96 blank s.rows ++ rest)) ≡ []
-    none k n at = ap (λ i. take i (drop at (laid 96 blank s.rows ++ rest))) (get_d_replicate n k 0)
+    none k n at = ap (λ i. take i (drop at (laid 96 blank s.rows ++ rest))) (get_or_repeated n k 0)
 
     places : places_of (laid 96 blank s.rows ++ rest) (source_kept s.rows s.end) 0 0 (joins_in s.rows) (take (length s.rows) (laid 96 blank s.rows ++ rest))
         ≡ placed [] [] 0 0 s.rows
@@ -139,4 +122,4 @@ schedule_back front x e f = λ i. record { places = places i; end = x.end }
 
 -- unused label rows behind those of a source keep no register live
 pub live_back : (labels : List LabelRow) → live_in (laid 9 unused labels) ≡ live_in labels
-live_back labels = fun_ext (λ l. fun_ext (λ i. ap (λ row. eqb (bit i row.live) 1) (getD_laid labels (9 - length labels) l.index unused)))
+live_back labels = fun_ext (λ l. fun_ext (λ i. ap (λ row. eqb (bit i row.live) 1) (laid_else 9 unused labels l.index)))

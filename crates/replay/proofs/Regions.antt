@@ -22,7 +22,8 @@ use Rattle.replay.specs.Events.{Event, counts}
 use Rattle.replay.specs.Held.{Held, said, said_for, held_after, held}
 use Rattle.replay.specs.Stored.{source_part, schedule_part, label_part, rows_part, record_of, in_order, stored}
 use Rattle.replay.proofs.Blocks.{in_order_same, length_in_order, part_in_order, written_in_order, written_within, getD_in_order, set_in_order}
-use Rattle.replay.proofs.ReadBack.{length_laid, length_pieces}
+use Rattle.region.proofs.Laid.{length_laid}
+use Rattle.replay.proofs.ReadBack.{length_pieces}
 
 -- stores of equal parts
 pub same_store : (n : ℕ) {ks ks' : List KeptRegion} {rows rows' : List Row} {labels labels' : List LabelRow} → ks ≡ ks' → rows ≡ rows' → labels ≡ labels'

@@ -3,9 +3,11 @@ use Rattle.std.proofs.Common.{◌≡◌, ℕ, zero, suc, ◌^◌, ◌<◌, ◌�
 use Rattle.std.proofs.lemmas.Bool.{cases_lt, eq-eqb, ne_eqb}
 use lib.Bits.{bit_and, and_lt}
 use lib.Count.{count_trailing_zeros}
+use Rattle.std.specs.Int.{w16}
+use Rattle.std.proofs.lemmas.Nat.Bits.{bit_at-trailing_zeros}
 use Rattle.validator.specs.Live.{bit}
 use Rattle.validator.specs.Numbers.{Marks}
-use Rattle.validator.proofs.Bits.{none_set, set_and, trailing}
+use Rattle.validator.proofs.Bits.{none_set, set_and}
 use Rattle.validator.specs.declared.verdict.Reason.{Reason}
 use Rattle.validator.specs.Comparison.{◌or_else◌, first_below, found, lowest}
 
@@ -54,7 +56,7 @@ module _ (e n : ℕ) (r : Reason) (test : ℕ → Bool) (live m : ℕ) (marks : 
   pub lowest_bit : live < 2 ^ 16 → m < 2 ^ 16 → 0 < bit_and live m
       → Some (record { entry = e; stop = n; reason = r; number = count_trailing_zeros 16 (bit_and live m) }) ≡ lowest e n 16 (λ i. eqb (bit i live) 1 && test i) r
   lowest_bit p q z =
-      let low = trailing 16 (bit_and live m) (and_lt 16 live m p q) z in
-      lowest_at e n r 16 (λ i. eqb (bit i live) 1 && test i) (count_trailing_zeros 16 (bit_and live m)) low.inside
-      (λ i l. sym (both i (omega (arith, low.inside))) ∙ ne_eqb _ 1 (λ o. omega (arith, o, low.none i l)))
-      (sym (both (count_trailing_zeros 16 (bit_and live m)) low.inside) ∙ eq-eqb _ 1 low.here)
+      let low = bit_at-trailing_zeros w16 (bit_and live m) z (and_lt 16 live m p q) in
+      lowest_at e n r 16 (λ i. eqb (bit i live) 1 && test i) (count_trailing_zeros 16 (bit_and live m)) low.0
+      (λ i l. sym (both i (omega (arith, low.0))) ∙ ne_eqb _ 1 (λ o. omega (arith, o, low.2 i l)))
+      (sym (both (count_trailing_zeros 16 (bit_and live m)) low.0) ∙ eq-eqb _ 1 low.1)

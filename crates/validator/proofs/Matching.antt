@@ -1,15 +1,16 @@
 -- Numbers differ where their terms do.
-use Rattle.std.proofs.Common.{◌≡◌, ℕ, zero, suc, ◌≤◌, Bool, true, false, not, ◌&&◌, ◌||◌, eqb, ◌⊎◌, List, length, get_or, set, replicate, Some, None, Option, sym, refl, ap, ◌∙◌, ap₂, inl, inr, arith}
+use Rattle.std.proofs.Common.{◌≡◌, ℕ, ◌≤◌, Bool, true, false, not, ◌&&◌, ◌||◌, eqb, ◌⊎◌, List, length, get_or, set, Some, None, Option, sym, refl, ap, ◌∙◌, ap₂, inl, inr, arith}
 use Rattle.std.specs.Bool.{beq}
-use Rattle.std.specs.Cmp.{booleans_Decides}
+use Rattle.std.specs.Cmp.{booleans_Decides, both_ways}
 use Rattle.std.specs.Cmp.Lexicographic.{pointwise}
 use Rattle.std.proofs.lemmas.Slice.Eq.{slice_eq-Decides}
-use Rattle.std.proofs.lemmas.Bool.{eqb-true, eqb-false, and_parts, and_from, both_ways, cases_eq}
+use Rattle.std.proofs.lemmas.Bool.{eqb-true, eqb-false, and_parts, and_from, cases_eq}
 use Rattle.std.proofs.lemmas.Bool.Decides.{same_from_decides}
 use Rattle.std.proofs.lemmas.List.{get_or-set_same, get_or-set_other, length-set, length-replicate, ext_get_or}
 use Rattle.domain.specs.declared.op.Op.{Op}
 use Rattle.domain.specs.Meaning.{Meaning}
 use Rattle.region.specs.declared.label.LabelRow.{LabelRow}
+use Rattle.region.proofs.Laid.{get_or_repeated}
 use Rattle.validator.specs.declared.term_row.TermRow.{TermRow}
 use Rattle.validator.specs.declared.verdict.Reason.TheVariants as reason
 use Rattle.validator.specs.declared.walk.Reached.{Reached}
@@ -23,16 +24,6 @@ use Rattle.validator.specs.Numbers.{live_mask, conditions_differ, numbers_differ
 use Rattle.validator.proofs.Interning.{same_by_number}
 use Rattle.validator.proofs.Lowest.{lowest_cong}
 
-unmarked : (m n : ℕ) → get_or (replicate m false) n false ≡ false
-unmarked zero n = refl
-unmarked (suc m) zero = refl
-unmarked (suc m) (suc n) = unmarked m n
-
-both : (a b : Bool) → (a ≡ true → b ≡ true) → (b ≡ true → a ≡ true) → a ≡ b
-both true b f g = sym (f refl)
-both false true f g = g refl
-both false false f g = refl
-
 module _ (c : Op → Bool) (xs : List TermRow) (tidy : Tidy c xs) (size : length xs ≤ 512) where
   marked_length : (h : List Bool) (ts : List Term) → Marked c xs h ts → length h ≡ 512
   marked_length _ _ none = length-replicate 512 false
@@ -40,7 +31,7 @@ module _ (c : Op → Bool) (xs : List TermRow) (tidy : Tidy c xs) (size : length
 
   -- a term is in a list where its number is marked
   member_mark : (k : List Bool) (us : List Term) → Marked c xs k us → (n : ℕ) (t : Term) → Names c xs n t → member (same c) t us ≡ get_or k n false
-  member_mark _ _ none n t a = sym (unmarked 512 n)
+  member_mark _ _ none n t a = sym (get_or_repeated 512 n false)
   member_mark _ _ (more h us m u p q) n t a =
       ap₂ (λ x y. x || y) (same_by_number c xs tidy n m t u a p) (member_mark h us q n t a) ∙ go (eqb n m) refl
     where
@@ -55,7 +46,7 @@ module _ (c : Op → Bool) (xs : List TermRow) (tidy : Tidy c xs) (size : length
 
   module _ (k : List Bool) (us : List Term) (marks : Marked c xs k us) where
     within_to : (h : List Bool) (ts : List Term) → Marked c xs h ts → within (same c) ts us ≡ true → (n : ℕ) → get_or h n false ≡ true → get_or k n false ≡ true
-    within_to _ _ none s n e = absurd (both_ways _ (unmarked 512 n) e)
+    within_to _ _ none s n e = let out = get_or_repeated 512 n false in cc
     within_to _ _ (more h ts m t p q) s n e = go (λ r. within_to h ts q r n) (cases_eq n m)
       where
         parts : (member (same c) t us ≡ true) × (within (same c) ts us ≡ true)
@@ -88,7 +79,7 @@ module _ (c : Op → Bool) (xs : List TermRow) (tidy : Tidy c xs) (size : length
       same_from_decides _ _ (slice_eq-Decides booleans_Decides h k _ refl) (
         (λ e.
             let w = and_parts (within (same c) ts us) (within (same c) us ts) e in
-            ext_get_or false h k (lh ∙ sym lk) (λ i l. both _ _ (within_to k us q h ts p w.0 i) (within_to h ts p k us q w.1 i))),
+            ext_get_or false h k (lh ∙ sym lk) (λ i l. both_ways _ _ (within_to k us q h ts p w.0 i) (within_to h ts p k us q w.1 i))),
         (λ e.
             and_from (within (same c) ts us) (within (same c) us ts)
             (within_from k us q h ts p (λ n x. ap (λ j. get_or j n false) (sym e) ∙ x))
