@@ -5,7 +5,7 @@ ghost use Rattle.region.specs.Machine.{answered, run_in, state_after};
 
 use super::state::State;
 use domain::Domain;
-use region::{LineRows, Misfit, Outcome, Part, Row, STATE_WORDS, Shape, Side};
+use region::{LineRows, Misfit, Outcome, REGION_ROWS, Row, STATE_WORDS, Shape, Side};
 
 /// Runs the source or the schedule that lies in a region's rows, from an entry, on a state of 80 words.
 pub fn run<D: Domain>(
@@ -18,7 +18,7 @@ pub fn run<D: Domain>(
     ensures answer { result ≡ answered (run_in D.meaning side rows.now (kept shape.now) entry state.old) }
     ensures after { state.new ≡ state_after state.old (run_in D.meaning side rows.now (kept shape.now) entry state.old) }
 {
-    let part = Part::new(rows).ok_or(Misfit::Rows)?;
+    let rows = <&[Row; REGION_ROWS]>::try_from(rows).map_err(|_| Misfit::Rows)?;
     if entry > shape.joins() {
         return Err(Misfit::Entry);
     }
@@ -26,7 +26,7 @@ pub fn run<D: Domain>(
         return Err(Misfit::State);
     }
     let line = LineRows {
-        part,
+        rows,
         side,
         shape: *shape,
     };

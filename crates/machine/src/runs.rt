@@ -7,14 +7,13 @@ impl<D: Domain> State<'_, D> {
     ghost use Rattle.std.specs.Prelude.{◌≡◌, ◌+◌, ◌≤◌, length};
     ghost use Rattle.region.specs.Kept.{kept};
     ghost use Rattle.region.specs.Lines.{assembled};
-    ghost use Rattle.region.specs.Parts.{rows_of};
     ghost use Rattle.region.specs.Machine.{run as run_of};
     ghost use Rattle.machine.specs.Straight.{ended, run_rows as ran};
 
     // Main rows in order, from a row with so many exits above it to the end of the line. None is a trap.
     fn run_rows(&mut self, line: LineRows, rows: &[Row], above: usize) -> Option<LabelNumber>
         requires { above + length rows.now ≤ 96 }
-        ensures run { ended D.meaning result self.new.words.now ≡ ran D.meaning (rows_of line.entry.part) (kept line.entry.shape) above rows.now self.old.words.now }
+        ensures run { ended D.meaning result self.new.words.now ≡ ran D.meaning line.entry.rows.now (kept line.entry.shape) above rows.now self.old.words.now }
         ensures same { self.new.words.ghost_name ≡ self.old.words.ghost_name }
     {
         let mut exits = above;
@@ -37,7 +36,7 @@ impl<D: Domain> State<'_, D> {
     /// A line from an entry that it has. None is a trap.
     pub(crate) fn run_from(&mut self, line: LineRows, entry: usize) -> Option<LabelNumber>
         requires { entry ≤ line.shape.joins }
-        ensures run { ended D.meaning result self.new.words.now ≡ run_of D.meaning (assembled line.entry.side (rows_of line.entry.part) (kept line.entry.shape)) entry self.old.words.now }
+        ensures run { ended D.meaning result self.new.words.now ≡ run_of D.meaning (assembled line.entry.side line.entry.rows.now (kept line.entry.shape)) entry self.old.words.now }
         ensures same { self.new.words.ghost_name ≡ self.old.words.ghost_name }
     {
         let Entered {

@@ -1,5 +1,4 @@
 pub mod ToJoins
-pub mod Whole
 pub mod Filling
 pub mod Schedules
 pub mod Pieces

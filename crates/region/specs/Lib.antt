@@ -6,7 +6,6 @@ pub mod Labels
 pub mod Kept
 pub mod Layout
 pub mod PieceNumbers
-pub mod Parts
 pub mod Lines
 pub mod Entries
 pub mod Machine

@@ -4,7 +4,6 @@ ghost use Rattle.region.specs.declared.row.Row.{Row as RowOf};
 ghost use Rattle.region.specs.Kept.{Kept, kept};
 ghost use Rattle.region.specs.Lines.{assembled, entered};
 ghost use Rattle.region.specs.Entries.{Enters, start_of};
-ghost use Rattle.region.specs.Parts.{rows_of};
 
 use super::line_rows::LineRows;
 use super::piece::Piece;
@@ -57,7 +56,7 @@ pub struct Entered<'a> {
 impl<'a> LineRows<'a> {
     /// What an entry of the line runs: entry 0 all main rows, and entry j + 1 the piece of join j and then the rows below it.
     pub fn entered(self, entry: usize) -> Entered<'a>
-        ensures start { entry ≤ self.entry.shape.joins → entered entry (assembled self.entry.side (rows_of self.entry.part) (kept self.entry.shape)).places ≡ start_of (rows_of self.entry.part) (kept self.entry.shape) entry result.exits result.piece.now result.ahead.now }
+        ensures start { entry ≤ self.entry.shape.joins → entered entry (assembled self.entry.side self.entry.rows.now (kept self.entry.shape)).places ≡ start_of self.entry.rows.now (kept self.entry.shape) entry result.exits result.piece.now result.ahead.now }
         ensures short { length result.piece.now ≤ 16 }
         ensures few { result.exits + length result.ahead.now ≤ 96 }
     {

@@ -3,7 +3,7 @@ use super::listing::{NameText, RowText, label_text};
 use super::refusals::refused;
 use desk::Trouble;
 use domain::Domain;
-use region::{LabelRow, LineRows, Outcome, Part, REGION_LABELS, REGION_ROWS, Row, Side};
+use region::{LabelRow, LineRows, Outcome, REGION_LABELS, REGION_ROWS, Row, Side};
 use shelf::Shelf;
 use std::alloc::Global;
 use std::{fs, io};
@@ -82,10 +82,11 @@ impl Held {
             Side::Source => record.source,
             Side::Schedule => record.schedule,
         };
-        match (held, Part::new(&self.rows)) {
-            (Some(shape), Some(part)) => self.show_line(rt, path, LineRows { part, side, shape }),
-            _ => Ok(()),
-        }
+        let Some(shape) = held else {
+            return Ok(());
+        };
+        let rows = &self.rows;
+        self.show_line(rt, path, LineRows { rows, side, shape })
     }
 
     fn show_line(&self, rt: &HostRuntime, path: &str, line: LineRows) -> Result<(), Trouble> {

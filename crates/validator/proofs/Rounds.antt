@@ -1,24 +1,17 @@
 -- Walks compared stop by stop, and lines entry by entry.
-use Rattle.std.proofs.Common.{◌≡◌, ℕ, suc, ◌+◌, ◌<◌, ◌≤◌, not, List, length, Some, None, Ok, Option, is_some, true, false, sym, refl, ap, ◌∙◌, ap₂, add-one, below_more, arith}
-use Rattle.std.proofs.lemmas.Bool.{eq-eqb, ne_eqb, le-leb, false≢true}
+use Rattle.std.proofs.Common.{◌≡◌, ℕ, suc, ◌+◌, ◌<◌, ◌≤◌, not, List, length, Some, None, Option, is_some, true, false, sym, refl, ap, ◌∙◌, ap₂, add-one, below_more, arith}
+use Rattle.std.proofs.lemmas.Bool.{eq-eqb, ne_eqb, false≢true}
 use Rattle.domain.specs.Meaning.{Meaning}
 use Rattle.region.specs.declared.label.LabelRow.{LabelRow}
-use Rattle.region.specs.declared.row.Row.{Row}
-use Rattle.region.specs.Kept.{Kept as KeptLine}
-use Rattle.region.specs.declared.side.Side.TheVariants.{Source, Schedule}
-use Rattle.region.specs.Lines.{Line, joins, assembled}
-use Rattle.region.specs.Parts.{part_of}
-use Rattle.region.proofs.Whole.{a_part}
+use Rattle.region.specs.Lines.{Line, joins}
 use Rattle.validator.specs.declared.term_row.TermRow.{TermRow}
 use Rattle.validator.specs.declared.verdict.Mismatch.{Mismatch}
 use Rattle.validator.specs.declared.verdict.Reason.TheVariants as reason
-use Rattle.validator.specs.declared.verdict.Verdict.{Verdict}
 use Rattle.validator.specs.declared.walk.Walk.{Walk}
 use Rattle.validator.specs.declared.walk.Reached.{Reached}
 use Rattle.validator.specs.Terms.{Term}
 use Rattle.validator.specs.Walks.{basis, Symbols, Stop, at_entry}
-use Rattle.validator.specs.Comparison.{◌or_else◌, found, first_below, stops_differ, mismatch, verdict}
-use Rattle.validator.specs.Compared.{compared}
+use Rattle.validator.specs.Comparison.{◌or_else◌, found, first_below, stops_differ, mismatch}
 use Rattle.validator.specs.Live.{live_in}
 use Rattle.validator.specs.Tidy.{Tidy, Kept}
 use Rattle.validator.specs.Means.{Means, Begun, ConditionMeans, StopMeans, Stopped, Onward, behind}
@@ -169,13 +162,3 @@ module _ {W : Type 0} (m : Meaning W) (labels : List LabelRow) (src sch : Line) 
     entries_passed r l e h =
         sym (first_below_none (entry_differs m labels src sch) (i + 1) (λ x z. below_more (λ y. entry_differs m labels src sch y ≡ None) k before (sym e ∙ from_is_none r h) x (omega arith)))
         ∙ same_joins same
-
--- there is a verdict where all fits
-pub compared_is : {W : Type 0} (m : Meaning W) (rows : List Row) (labels : List LabelRow) (source schedule : KeptLine) (room : ℕ) (part : List Row) (d : Option Mismatch) (v : Verdict)
-    → Some part ≡ part_of rows → length labels ≡ 9 → 512 ≤ room
-    → d ≡ mismatch (basis m (live_in labels)) (assembled Source part source) (assembled Schedule part schedule) → v ≡ verdict d
-    → Ok v ≡ compared m rows labels source schedule room
-compared_is m rows labels source schedule room part d v p l r e f =
-    let q = a_part rows part p in
-    rw (eq-eqb (length rows) 384 q.0, eq-eqb (length labels) 9 l, le-leb 512 room r)
-    (ap Ok (f ∙ ap verdict (e ∙ ap (λ xs. mismatch (basis m (live_in labels)) (assembled Source xs source) (assembled Schedule xs schedule)) q.1)))

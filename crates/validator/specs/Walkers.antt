@@ -4,7 +4,6 @@ use Rattle.domain.specs.Meaning.{Meaning}
 use Rattle.region.specs.declared.label.LabelRow.{LabelRow}
 use Rattle.region.specs.Kept.{kept}
 use Rattle.region.specs.Lines.{Line, assembled}
-use Rattle.region.specs.Parts.{rows_of}
 use Rattle.region.specs.declared.line_rows.LineRows.{LineRows}
 use Rattle.validator.specs.declared.term_row.TermRow.{TermRow}
 use Rattle.validator.specs.declared.verdict.Mismatch.{Mismatch}
@@ -19,11 +18,11 @@ use Rattle.validator.specs.Straight.{walk_rows}
 use Rattle.validator.specs.Means.{Means, Liveness, Stopped, Onward}
 
 abbrev pub line_of : LineRows → Line
-line_of l = assembled l.side (rows_of l.part) (kept l.shape)
+line_of l = assembled l.side l.rows.now (kept l.shape)
 
 -- the stops that a walker has ahead, from its symbols on
 abbrev pub stops_ahead : Basis → Walker → Symbols → List Stop
-stops_ahead β w s = walk_rows β (rows_of w.line.part) (kept w.line.shape) w.exits w.ahead.now s
+stops_ahead β w s = walk_rows β w.line.rows.now (kept w.line.shape) w.exits w.ahead.now s
 
 -- the most terms that a walk can still make: one for each main row ahead, and sixteen for each of eight exits
 abbrev pub left : Walker → ℕ

@@ -15,7 +15,7 @@ use super::verdict::{Mismatch, Reason, Verdict};
 use super::walk::Walk;
 use super::walking::Walker;
 use domain::Domain;
-use region::{LabelRow, LineRows, Part, REGION_LABELS, Row, Shape, Side};
+use region::{LabelRow, LineRows, REGION_LABELS, REGION_ROWS, Row, Shape, Side};
 
 // No walk has more stops: one at each of 96 main rows, and the end.
 const MOST_STOPS: u8 = 97;
@@ -95,11 +95,11 @@ pub fn compare<D: Domain>(
     ensures answer { result ≡ compared D.meaning rows.now labels.now (kept source.now) (kept schedule.now) (length terms.old) }
     ensures room { length terms.new ≡ length terms.old }
 {
-    let part = Part::new(rows).ok_or(Unfit::Rows)?;
+    let rows = <&[Row; REGION_ROWS]>::try_from(rows).map_err(|_| Unfit::Rows)?;
     let labels = <&[LabelRow; REGION_LABELS]>::try_from(labels).map_err(|_| Unfit::Labels)?;
     let terms = terms.first_chunk_mut::<TERM_ROWS>().ok_or(Unfit::Terms)?;
     let line = |side, shape: &Shape| LineRows {
-        part,
+        rows,
         side,
         shape: *shape,
     };

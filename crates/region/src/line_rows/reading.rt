@@ -2,7 +2,6 @@
 ghost use Rattle.std.specs.Prelude.{◌≡◌, ◌≤◌, length};
 ghost use Rattle.region.specs.Kept.{kept};
 ghost use Rattle.region.specs.Layout.{main_at, main_rows};
-ghost use Rattle.region.specs.Parts.{rows_of};
 ghost use Rattle.region.specs.PieceNumbers.{piece_rows};
 
 use super::super::layout::{EXIT_PIECES, MAIN_ROWS, PIECE_ROWS};
@@ -23,24 +22,22 @@ fn main_begins(side: Side) -> usize
 impl<'a> LineRows<'a> {
     /// The main rows.
     pub fn main(self) -> &'a [Row]
-        ensures rows { result.now ≡ main_rows self.entry.side (rows_of self.entry.part) (kept self.entry.shape) }
+        ensures rows { result.now ≡ main_rows self.entry.side self.entry.rows.now (kept self.entry.shape) }
         ensures few { length result.now ≤ 96 }
     {
-        let rows = self.part.rows();
         let at = main_begins(self.side);
-        &rows[at..at + self.shape.rows()]
+        &self.rows[at..at + self.shape.rows()]
     }
 
     /// The rows of a piece: none beyond the eighth exit and the fourth join.
     pub fn piece(self, piece: Piece) -> &'a [Row]
-        ensures rows { result.now ≡ piece_rows piece (rows_of self.entry.part) (kept self.entry.shape) }
+        ensures rows { result.now ≡ piece_rows piece self.entry.rows.now (kept self.entry.shape) }
         ensures few { length result.now ≤ 16 }
     {
-        let rows = self.part.rows();
         let Some(p) = piece.number() else {
-            return &rows[0..0];
+            return &[];
         };
         let at = EXIT_PIECES + PIECE_ROWS * p;
-        &rows[at..at + self.shape.piece_rows(piece)]
+        &self.rows[at..at + self.shape.piece_rows(piece)]
     }
 }

@@ -1,6 +1,5 @@
 use Rattle.std.proofs.Common.{◌≡◌, ◌∷◌, length, ap, arith, rules}
 use Rattle.std.proofs.lemmas.List.{nil_from_length}
-use Rattle.region.specs.Parts.{rows_of}
 use Rattle.region.specs.Kept.{kept}
 use Rattle.validator.specs.Walks.{basis}
 use Rattle.validator.specs.Walkers.{stops_ahead}
@@ -15,7 +14,7 @@ loop-row-preserved-in-Act g c =
       few = omega (arith, ap length first);
       shorter = omega (arith, ap length first);
       onward = λ live s tidy h.
-          past_action g.D.Domain.meaning live (rows_of now.line.part) (kept now.line.shape) now.exits (c.loop-row.invariant.onward live s tidy h)
+          past_action g.D.Domain.meaning live now.line.rows.now (kept now.line.shape) now.exits (c.loop-row.invariant.onward live s tidy h)
           first c.in-Act.action c.in-Act.is c.act.ensures.acts;
     }
 
@@ -23,7 +22,7 @@ pub returns-in-Exit-clause-stopped : goal.returns-in-Exit-clause-stopped
 returns-in-Exit-clause-stopped g c live s tidy h =
     let now = c.loop-row.self in
     let first : now.ahead.now ≡ c.in-Some.row.now ∷ c.in-Some.rest.now = search rules in
-    at_exit g.D.Domain.meaning live (rows_of now.line.part) (kept now.line.shape) now.exits (c.loop-row.invariant.onward live s tidy h)
+    at_exit g.D.Domain.meaning live now.line.rows.now (kept now.line.shape) now.exits (c.loop-row.invariant.onward live s tidy h)
     first c.in-Exit.tested c.in-Exit.label c.in-Exit.is c.piece-piece.ensures.rows c.leave.ensures.leaves
 
 pub loop-row-preserved : goal.loop-row-preserved
@@ -34,10 +33,10 @@ loop-row-preserved g c =
       few = omega (arith, ap length first);
       shorter = omega (arith, ap length first);
       onward = λ live s tidy h.
-          past_join g.D.Domain.meaning live (rows_of now.line.part) (kept now.line.shape) now.exits (c.loop-row.invariant.onward live s tidy h) first c.in-Join.is;
+          past_join g.D.Domain.meaning live now.line.rows.now (kept now.line.shape) now.exits (c.loop-row.invariant.onward live s tidy h) first c.in-Join.is;
     }
 
 pub returns-clause-stopped : goal.returns-clause-stopped
 returns-clause-stopped g c live s tidy h =
     let now = c.loop-row.self in
-    at_end g.D.Domain.meaning live (rows_of now.line.part) (kept now.line.shape) now.exits (c.loop-row.invariant.onward live s tidy h) _ (stops_ahead (basis g.D.Domain.meaning live) now) c.end.ensures (nil_from_length now.ahead.now (search rules))
+    at_end g.D.Domain.meaning live now.line.rows.now (kept now.line.shape) now.exits (c.loop-row.invariant.onward live s tidy h) _ (stops_ahead (basis g.D.Domain.meaning live) now) c.end.ensures (nil_from_length now.ahead.now (search rules))
