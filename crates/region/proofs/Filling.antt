@@ -1,19 +1,16 @@
 -- Rows as they are put in.
-use Rattle.std.proofs.Common.{◌≡◌, ℕ, suc, ◌+◌, ◌-◌, ◌<◌, ◌≤◌, false, ◌&&◌, nat_le, List, [], ◌∷◌, ◌++◌, length, take, set, replicate, sym, ap, ◌∙◌, ap₂, append_assoc, add_assoc, arith, length-append, length-take}
+use Rattle.std.proofs.Common.{◌≡◌, ℕ, suc, ◌+◌, ◌-◌, ◌<◌, ◌≤◌, false, ◌&&◌, nat_le, List, [], ◌∷◌, ◌++◌, length, take, set, replicate, sym, ap, ◌∙◌, ap₂, append_assoc, arith, length-append, length-take}
 use lib.ListN.{length-replicate}
 use Rattle.std.proofs.lemmas.List.{length-take-le, take_more_set, set_at, length_push}
 use Rattle.std.proofs.lemmas.Bool.{lt-leb}
 use Rattle.std.proofs.Math.Bool.{and-false}
+use Rattle.std.proofs.lemmas.List.Sums.{sum_by_push}
 use Rattle.region.specs.declared.main_rows.MainRows.{MainRows}
 use Rattle.region.specs.declared.buffer.RowBuffer.{RowBuffer}
 use Rattle.region.specs.declared.row.Row.{Row}
 use Rattle.region.specs.Filled.{filled}
 use Rattle.region.specs.Listing.{listed}
-use Rattle.region.specs.Rows.{blank, laid, counted, one_exit, one_join, exits_in, joins_in, main_fits}
-
-pub counted_push : (f : Row → ℕ) (rs : List Row) (r : Row) → counted f (rs ++ r ∷ []) ≡ counted f rs + f r
-counted_push f [] r = omega arith
-counted_push f (x ∷ rs) r = ap (λ n. f x + n) (counted_push f rs r) ∙ sym (add_assoc (f x) (counted f rs) (f r))
+use Rattle.region.specs.Rows.{blank, laid, one_exit, one_join, exits_in, joins_in, main_fits}
 
 module _ {X : Type 0} (size n : ℕ) (x : X) (xs : List X) (few : n ≤ size) (padded : xs ≡ laid size x (take n xs)) where
   -- the places are all there
@@ -49,10 +46,10 @@ module _ {N : ℕ} (b : RowBuffer N) where
 -- main rows with one row more
 module _ (m : MainRows) (r : Row) (x j : ℕ) (exit_is : x ≡ one_exit r) (join_is : j ≡ one_join r) where
   pub exits_more : m.exits + x ≡ exits_in (listed m ++ r ∷ [])
-  exits_more = ap₂ (λ p q. p + q) m.exits_counted exit_is ∙ sym (counted_push one_exit (listed m) r)
+  exits_more = ap₂ (λ p q. p + q) m.exits_counted exit_is ∙ sym (sum_by_push one_exit (listed m) r)
 
   pub joins_more : m.joins + j ≡ joins_in (listed m ++ r ∷ [])
-  joins_more = ap₂ (λ p q. p + q) m.joins_counted join_is ∙ sym (counted_push one_join (listed m) r)
+  joins_more = ap₂ (λ p q. p + q) m.joins_counted join_is ∙ sym (sum_by_push one_join (listed m) r)
 
   pub too_many_exits : 8 < m.exits + x → false ≡ main_fits (listed m ++ r ∷ [])
   too_many_exits h = rw (← exits_more, lt-leb (m.exits + x) 8 h, and-false (nat_le (length (listed m ++ r ∷ [])) 96))

@@ -1,5 +1,6 @@
 -- Rows, counted and read as actions.
-use Rattle.std.specs.Prelude.{ℕ, ◌+◌, ◌-◌, Bool, ◌&&◌, List, [], ◌∷◌, ◌++◌, length, replicate, nat_le}
+use Rattle.std.specs.Prelude.{ℕ, ◌-◌, Bool, ◌&&◌, List, [], ◌∷◌, ◌++◌, length, replicate, nat_le}
+use Rattle.std.specs.List.{sum_by}
 use Rattle.std.proofs.Common.{lit<}
 use Rattle.region.specs.declared.row.Action.{Action}
 use Rattle.region.specs.declared.row.Action.TheVariants.{Literal}
@@ -21,16 +22,12 @@ one_join (Act a) = 0
 one_join (Exit t l) = 0
 one_join Join = 1
 
-abbrev pub counted : (Row → ℕ) → List Row → ℕ
-counted f [] = 0
-counted f (r ∷ rs) = f r + counted f rs
-
 -- how many exits and joins rows hold
 abbrev pub exits_in : List Row → ℕ
-exits_in = counted one_exit
+exits_in = sum_by one_exit
 
 abbrev pub joins_in : List Row → ℕ
-joins_in = counted one_join
+joins_in = sum_by one_join
 
 -- a line has at most 96 rows, 8 exits and 4 joins
 abbrev pub sizes_fit : (rows exits joins : ℕ) → Bool

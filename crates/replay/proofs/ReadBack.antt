@@ -1,7 +1,8 @@
 -- The lines that are read from a region's rows are those that the texts say.
-use Rattle.std.proofs.Common.{◌≡◌, ℕ, zero, suc, ◌+◌, ◌*◌, eqb, List, [], ◌∷◌, ◌++◌, map, length, get_or, take, drop, replicate, sym, refl, ap, ◌∙◌, ap₂, append_assoc, zero-add, add-one, one-add, arith, length-append, drop-drop, drop_at}
+use Rattle.std.proofs.Common.{◌≡◌, ℕ, zero, suc, ◌+◌, ◌*◌, eqb, List, [], ◌∷◌, ◌++◌, map, length, get_or, take, drop, replicate, sym, refl, ap, ◌∙◌, ap₂, append_assoc, add-one, one-add, arith, length-append, drop-drop, drop_at}
 use mathlib.Core.Path.{fun_ext}
 use Rattle.std.proofs.lemmas.List.{append-nil}
+use Rattle.std.proofs.lemmas.List.Sums.{sum_by-cons}
 use Rattle.region.specs.declared.label.LabelRow.{LabelRow}
 use Rattle.region.specs.declared.row.Row.{Row}
 use Rattle.region.specs.declared.row.Row.TheVariants.{Act, Exit, Join}
@@ -12,7 +13,7 @@ use Rattle.region.specs.Layout.{exit_rows, join_rows}
 use Rattle.region.specs.Lines.{act, exit, join, joins, places_of, assembled}
 use Rattle.region.specs.Listing.{source_kept, schedule_kept}
 use Rattle.region.specs.Pieces.{laid_pieces, schedule_rows}
-use Rattle.region.specs.Rows.{actions, blank, joins_in, laid}
+use Rattle.region.specs.Rows.{actions, blank, joins_in, one_join, laid}
 use Rattle.region.proofs.Laid.{get_or_repeated, length_laid, take_laid, laid_else}
 use Rattle.region_text.specs.Schedules.{Schedule}
 use Rattle.region_text.specs.Sources.{Source}
@@ -25,22 +26,19 @@ module _ (part : List Row) (sh : Kept) (exits entries : List (List Row))
     (exit_is : (k : ℕ) → exit_rows part sh k ≡ get_or exits k []) (join_is : (j : ℕ) → join_rows part sh j ≡ get_or entries j []) where
   places_said : (k j : ℕ) (rs : List Row) → places_of part sh k j (joins_in rs) rs ≡ placed exits entries k j rs
   places_said k j [] = refl
-  places_said k j (Act a ∷ rs) =
-      ap (λ n. places_of part sh k j n (Act a ∷ rs)) (zero-add (joins_in rs)) ∙ ap (λ ps. act a ∷ ps) (places_said k j rs)
-  places_said k j (Exit t l ∷ rs) =
-      ap (λ n. places_of part sh k j n (Exit t l ∷ rs)) (zero-add (joins_in rs))
-      ∙ ap₂ (λ p ps. exit t l (actions p) ∷ ps) (exit_is k) (places_said (k + 1) j rs)
+  places_said k j (Act a ∷ rs) = ap (λ ps. act a ∷ ps) (places_said k j rs)
+  places_said k j (Exit t l ∷ rs) = ap₂ (λ p ps. exit t l (actions p) ∷ ps) (exit_is k) (places_said (k + 1) j rs)
   places_said k j (Join ∷ rs) =
-      ap (λ n. places_of part sh k j n (Join ∷ rs)) (one-add (joins_in rs))
+      ap (λ n. places_of part sh k j n (Join ∷ rs)) (sum_by-cons one_join Join rs ∙ one-add (joins_in rs))
       ∙ ap₂ (λ p ps. join (actions p) ∷ ps) (join_is j)
       (ap (λ i. places_of part sh k i (joins_in rs) rs) (sym (add-one j)) ∙ places_said k (j + 1) rs)
 
 -- a line's joins are its join rows
 pub joins_said : (exits entries : List (List Row)) (k j : ℕ) (rs : List Row) → joins (placed exits entries k j rs) ≡ joins_in rs
 joins_said exits entries k j [] = refl
-joins_said exits entries k j (Act a ∷ rs) = joins_said exits entries k j rs ∙ sym (zero-add (joins_in rs))
-joins_said exits entries k j (Exit t l ∷ rs) = joins_said exits entries (k + 1) j rs ∙ sym (zero-add (joins_in rs))
-joins_said exits entries k j (Join ∷ rs) = ap suc (joins_said exits entries k (j + 1) rs) ∙ sym (one-add (joins_in rs))
+joins_said exits entries k j (Act a ∷ rs) = joins_said exits entries k j rs
+joins_said exits entries k j (Exit t l ∷ rs) = joins_said exits entries (k + 1) j rs
+joins_said exits entries k j (Join ∷ rs) = ap suc (joins_said exits entries k (j + 1) rs) ∙ sym (sum_by-cons one_join Join rs ∙ one-add (joins_in rs))
 
 -- a source, whatever lies behind it
 pub source_back : (s : Source) (rest : List Row) → assembled side.Source (laid 96 blank s.rows ++ rest) (source_kept s.rows s.end) ≡ source_line s

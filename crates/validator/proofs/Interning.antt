@@ -3,12 +3,9 @@ use Rattle.std.specs.Prelude.{◌≡◌, ℕ, ◌<◌, ◌≤◌, min, max, Bool
 use Rattle.std.proofs.Common.{sym, ◌∙◌, subst, inl, inr, arith, not-suc-le-zero}
 use Rattle.std.proofs.lemmas.Bool.{cases_lt}
 use Rattle.std.proofs.lemmas.Bool.Decides.{same_from_decides, Decides-eqb}
-use Rattle.std.proofs.lemmas.List.{length_push, length-take-le}
+use Rattle.std.proofs.lemmas.List.{length_push}
 use Rattle.numbering.specs.Rows.{found, numbered, with_row}
-use Rattle.numbering.specs.declared.kind.Kind.{Ghosts}
-use Rattle.numbering.specs.declared.table.Table.{Table}
-use Rattle.numbering.specs.Used.{used, capacity}
-use Rattle.numbering.proofs.Found.{none_is_some, found_is, distinct_none, distinct_push}
+use Rattle.numbering.proofs.Found.{found_is, distinct_none, distinct_push}
 use Rattle.numbering.proofs.Numbered.{by_ways}
 use Rattle.domain.specs.declared.op.Op.{Op}
 use Rattle.validator.specs.declared.term_row.TermRow.{TermRow}
@@ -19,23 +16,9 @@ use Rattle.validator.specs.Terms.{Same, same_register, same_bank, same_literal, 
 use Rattle.validator.specs.TermRows.{ordered, row_equals, row_term, denoted, MarkedRight}
 use Rattle.validator.specs.Tidy.{Tidy, Names, Grown, Says, Interned}
 use Rattle.validator.proofs.Same.{same_refl, same_sym, same_trans, test_so_same, same_so_test}
-use Rattle.numbering.specs.declared.kind.Kind.{Ghosts}
 use Rattle.validator.specs.Equal.{equal_decides, equivalence}
 use Rattle.validator.proofs.Unique.{unique}
 use Rattle.validator.proofs.Grown.{grown, stays, newest, at_row}
-
--- a table has as many rows in use as it counts
-pub used_length : {kind : Ghosts TermRow} (t : Table TermRow kind) → length (used t) ≡ t.len
-used_length t = length-take-le t.len t.rows.now t.inside
-
--- numbering answers the number of a row in the table
-pub number_inside : {kind : Ghosts TermRow} (t : Table TermRow kind) (r : TermRow) (o : Option ℕ) (n : ℕ) → o ≡ numbered row_equals (capacity t) (used t) r → o ≡ Some n → n < capacity t
-number_inside t r o n p q =
-    by_ways row_equals (capacity t) (used t) r (λ a after. a ≡ Some n → n < capacity t)
-    (λ i f g. let i_is : i ≡ n = cc in omega (arith, (found_is row_equals r (used t) i r f).0, used_length t, t.inside))
-    (λ f l g. let n_is : length (used t) ≡ n = cc in omega arith)
-    (λ f l g. none_is_some n g)
-    (sym p ∙ q)
 
 module _ (c : Op → Bool) (term : ℕ → Term) where
   in_order : (o : Op) (a b : ℕ) → c o ≡ true → Same c (operate o (term a) (term b)) (operate o (term (min a b)) (term (max a b)))
@@ -109,7 +92,7 @@ module _ (c : Op → Bool) where
         (by_ways row_equals room xs r (λ a after. a ≡ Some n → Interned c xs after n t)
         (λ i f g. let i_is : i ≡ n = cc in rw (← i_is) (old i f))
         (λ f l g. let n_is : length xs ≡ n = cc in rw (← n_is) (new f))
-        (λ f l g. none_is_some n g)
+        (λ f l g. cc)
         (sym p ∙ q))
 
   -- the test on terms is that on their numbers
