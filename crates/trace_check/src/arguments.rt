@@ -103,10 +103,7 @@ impl<'a> Arguments<'a> {
     }
 
     fn set_domain(&mut self, word: &'a str) -> Result<(), Misuse<'a>> {
-        let Ok(domain) = word.parse() else {
-            return Err(Misuse::UnknownDomain(word));
-        };
-        self.request.manner.domain = domain;
+        self.request.manner.domain = word.parse().map_err(|_| Misuse::UnknownDomain(word))?;
         self.next = Next::Any;
         Ok(())
     }
