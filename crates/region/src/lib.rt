@@ -1,7 +1,6 @@
 // The rows of a region, how they are laid out, and what they mean.
 #![tactic(auto)]
 
-mod blank;
 mod buffer;
 mod entering;
 mod full;

@@ -1,4 +1,6 @@
 // The rows of a region.
+ghost use Rattle.std.specs.Prelude.{◌≡◌};
+
 use super::numbers::{Bank, LabelNumber, Register};
 use domain::Op;
 
@@ -42,4 +44,18 @@ pub enum Row {
     },
     /// A place where control enters the line from elsewhere.
     Join,
+}
+
+impl Row {
+    ghost use Rattle.region.specs.Rows.{blank as unused};
+
+    /// The row that stands in an unused place: register 0 becomes literal 0.
+    pub fn blank() -> Row
+        ensures { result ≡ unused }
+    {
+        Row::Act(Action::Literal {
+            to: Register::new(0).unwrap(),
+            value: 0,
+        })
+    }
 }
