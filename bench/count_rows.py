@@ -1,16 +1,29 @@
 #!/usr/bin/env python3
-"""Replays the walks of a pair on plain dictionaries, and counts what a table of terms with a hash index would do in each entry.
+"""Replays the walks of a pair on plain dictionaries, and counts what the table of terms does in each entry.
 
     bench/count_rows.py SOURCE SCHEDULE
 
 Prints the rows that were numbered, put in, and compared, and the longest search; the last line is for all entries.
-The table of the crate numbering has no such index yet: docs/meant/hash-index.patch has the one that is counted here.
 The domain is that of wrapping words, and the texts are taken to be right.
 """
 import sys
 
-WEIGHTS = (67, 29, 5, 113)  # as in docs/meant/hash-index.patch
 COMMUTING = {0, 2, 5, 6, 7}  # add, mul, eq, and, or
+
+
+def hashed(kind, *parts):
+    """The hash of a row, as `mixed` of the validator computes it."""
+    if kind == "register":
+        return parts[0]
+    if kind == "bank":
+        return 16 + parts[0]
+    if kind == "literal":
+        return 20 + parts[0]
+    if kind == "operate":
+        op, _, a, b = parts
+        return 31 * op + 67 * a + 29 * b
+    k, a, v = parts if kind == "store" else (*parts, 0)
+    return (5 if kind == "store" else 7) + 113 * k + 37 * a + 67 * v
 
 
 class Table:
@@ -20,7 +33,7 @@ class Table:
 
     def number(self, *key):
         self.numbered += 1
-        chain = self.chains[sum(w * k for w, k in zip(WEIGHTS, key)) % 256]
+        chain = self.chains[hashed(*key) % 256]
         for steps, row in enumerate(reversed(chain), 1):
             self.compared += 1
             self.longest = max(self.longest, steps)
@@ -49,13 +62,14 @@ def act(table, registers, banks, fields):
     if letter == "O":
         op, d, a, b = numbers
         x, y = registers[a], registers[b]
-        registers[d] = table.number(4, op, min(x, y), max(x, y)) if op in COMMUTING else table.number(3, op, x, y)
+        exchangeable = op in COMMUTING
+        registers[d] = table.number("operate", op, exchangeable, *(sorted((x, y)) if exchangeable else (x, y)))
     elif letter == "I":
-        registers[numbers[0]] = table.number(2, numbers[1], 0, 0)
+        registers[numbers[0]] = table.number("literal", numbers[1])
     elif letter == "L":
-        registers[numbers[0]] = table.number(5, banks[numbers[1]], registers[numbers[2]], 0)
+        registers[numbers[0]] = table.number("load", banks[numbers[1]], registers[numbers[2]])
     elif letter == "S":
-        banks[numbers[0]] = table.number(6, banks[numbers[0]], registers[numbers[1]], registers[numbers[2]])
+        banks[numbers[0]] = table.number("store", banks[numbers[0]], registers[numbers[1]], registers[numbers[2]])
 
 
 def walk(table, start, line, entry):
@@ -83,7 +97,7 @@ if __name__ == "__main__":
     tables = []
     for entry in range(1 + sum(fields[0] == "J" for fields in pair[0][0])):
         table = Table()
-        start = [table.number(0, i, 0, 0) for i in range(16)], [table.number(1, k, 0, 0) for k in range(4)]
+        start = [table.number("register", i) for i in range(16)], [table.number("bank", k) for k in range(4)]
         for line in pair:
             walk(table, start, line, entry)
         tables.append(table)

@@ -4,9 +4,9 @@
 #
 #     bench/run.sh [N]
 #
-# Each pair is read and checked N times (2000 where N is not given) by one run of trace_check, which is given a list that
-# names the pair so often. Prints for each the time of one reading and check, the rows of source and schedule a second, and
-# the instructions that valgrind counts for one of them; opening the two files and printing a line are in all of these.
+# Each pair is read and checked N times (2000 where N is not given) by one run of `trace_check --repeat`, each time on a shelf
+# of one region that is emptied before. Prints for each the time of one reading and check, the rows of source and schedule a
+# second, and the instructions that valgrind counts for one of them; OPEN is in all of these, and the files are read once.
 # Wants Python 3 and valgrind, and a trace_check that was built by `rt run -- --help` in crates/trace_check.
 set -e
 cd "$(dirname "$0")/.."
@@ -16,23 +16,17 @@ where=$(mktemp -d)
 trap 'rm -rf "$where"' EXIT
 bench/make_regions.py "$where"
 
-# a list that names a pair so often
-list() {
-    yes "$2.src $2.sch" | head -n "$1" >"$where/list"
-}
-
-# the instructions of a run over a pair, so often
+# the instructions of so many checks of a pair
 count() {
-    list "$1" "$2"
-    valgrind --tool=callgrind --callgrind-out-file="$where/profile" "$check" --list "$where/list" 2>&1 >/dev/null |
+    valgrind --tool=callgrind --callgrind-out-file="$where/profile" \
+        "$check" --repeat "$1" "$2.src" "$2.sch" 2>&1 >/dev/null |
         sed -n 's/.*Collected : \([0-9]*\).*/\1/p'
 }
 
-# the nanoseconds of a run over a pair, so often
+# the nanoseconds of so many checks of a pair
 clock() {
-    list "$1" "$2"
     begin=$(date +%s%N)
-    "$check" --list "$where/list" >/dev/null
+    "$check" --repeat "$1" "$2.src" "$2.sch" >/dev/null
     end=$(date +%s%N)
     echo $((end - begin))
 }

@@ -14,6 +14,8 @@ use std::alloc::{AllocError, Global};
 use std::marker::Model;
 use validator::{TERM_ROWS, TermRow, Verdict};
 
+mod replaying;
+
 /// A shelf, and the memory that it is lent: the rows and labels of its regions, and the term rows of a check. Programs
 /// make one, so its memory is on the heap.
 #[derive(Drop)]

@@ -1,9 +1,9 @@
 -- What a found number means, over plain lists.
-use Rattle.std.proofs.Common.{◌≡◌, ℕ, ◌+◌, ◌<◌, ◌≤◌, Bool, true, false, ◌⊎◌, List, [], ◌∷◌, ◌++◌, length, get_or, Some, None, refl, inl, inr, not-suc-le-zero, arith, length-append}
+use Rattle.std.proofs.Common.{◌≡◌, ℕ, ◌+◌, ◌<◌, ◌≤◌, Bool, true, false, ◌⊎◌, List, [], ◌∷◌, ◌++◌, length, get_or, take, drop, Some, None, Option, refl, subst, inl, inr, not-suc-le-zero, arith, length-append, length-take}
 use Rattle.std.specs.List.{position_or_len}
 use Rattle.std.proofs.lemmas.Bool.Decides.{nat_tests}
 use Rattle.std.proofs.lemmas.Bool.{both_ways, cases_lt, lt-ltb}
-use Rattle.std.proofs.lemmas.List.{get_or_append_left, get_or_push, length_push}
+use Rattle.std.proofs.lemmas.List.{get_or_append_left, get_or_push, length_push, get_or-take, take-append-drop}
 use Rattle.std.proofs.lemmas.List.Quantifiers.{position-Some}
 use Rattle.std.proofs.lemmas.List.Sums.{position_or_len_is, fails_before_first}
 use Rattle.numbering.specs.Rows.{found, Distinct, Equivalence, Exactly}
@@ -11,6 +11,13 @@ use Rattle.numbering.specs.Rows.{found, Distinct, Equivalence, Exactly}
 -- no rows are distinct rows
 pub distinct_none : {R : Type 0} (eq : R → R → Bool) → Distinct eq []
 distinct_none eq i j d li lj t = absurd (not-suc-le-zero li)
+
+-- the first of distinct rows are distinct
+pub distinct_take : {R : Type 0} (eq : R → R → Bool) (n : ℕ) (xs : List R) → Distinct eq xs → Distinct eq (take n xs)
+distinct_take eq n xs ds i j d li lj t =
+    let a : (i < n) × (i < length xs) = (omega (arith, length-take n xs), omega (arith, length-take n xs)) in
+    let b : (j < n) × (j < length xs) = (omega (arith, length-take n xs), omega (arith, length-take n xs)) in
+    ds i j d a.1 b.1 (rw (get_or-take n xs i d a.0, get_or-take n xs j d b.0) at t)
 
 module _ {R : Type 0} (eq : R → R → Bool) (row : R) where
   -- a found number is below the length, and its row equals the row
@@ -21,8 +28,16 @@ module _ {R : Type 0} (eq : R → R → Bool) (row : R) where
   pub none_is : (xs : List R) (d : R) → found eq xs row ≡ None → (i : ℕ) → i < length xs → eq (get_or xs i d) row ≡ false
   none_is xs d e i l = fails_before_first (λ x. eq x row) xs i d (grind (arith, nat_tests))
 
+  -- where no row equals the row, no number is found
+  pub none_found : (xs : List R) → ((k : ℕ) → k < length xs → eq (get_or xs k row) row ≡ false) → None ≡ found eq xs row
+  none_found xs h = go (found eq xs row) refl
+    where
+      go : (o : Option ℕ) → found eq xs row ≡ o → None ≡ o
+      go None e = refl
+      go (Some k) e = let f = found_is xs k row e in absurd (both_ways _ (h k f.0) f.1)
+
   -- the first row that equals the row is found
-  first_found : (xs : List R) (k : ℕ) → k < length xs → ((j : ℕ) → j < k → eq (get_or xs j row) row ≡ false) → eq (get_or xs k row) row ≡ true → found eq xs row ≡ Some k
+  pub first_found : (xs : List R) (k : ℕ) → k < length xs → ((j : ℕ) → j < k → eq (get_or xs j row) row ≡ false) → eq (get_or xs k row) row ≡ true → found eq xs row ≡ Some k
   first_found xs k l before here =
       let at : position_or_len (λ x. eq x row) xs ≡ k = position_or_len_is (λ x. eq x row) xs k row (omega arith) before (λ _. here) in
       rw (at, lt-ltb k (length xs) l)
@@ -34,6 +49,9 @@ module _ {R : Type 0} (eq : R → R → Bool) (row : R) where
       first_found (xs ++ ys) k (omega (arith, length-append xs ys, h.0))
       (λ j l. rw (get_or_append_left xs ys row j (omega (arith, h.0))) (h.2 j l))
       (rw (get_or_append_left xs ys row k h.0) h.1)
+
+  pub found_taken : (n : ℕ) (xs : List R) (k : ℕ) → found eq (take n xs) row ≡ Some k → found eq xs row ≡ Some k
+  found_taken n xs k e = subst (λ (ys : List R). found eq ys row ≡ Some k) (take-append-drop n xs) (found_kept (take n xs) (drop n xs) k e)
 
   -- a row that was not found, put behind, is found at the end
   pub found_push : eq row row ≡ true → (xs : List R) → found eq xs row ≡ None → found eq (xs ++ row ∷ []) row ≡ Some (length xs)

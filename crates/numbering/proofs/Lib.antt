@@ -1,2 +1,4 @@
 pub mod Found
 pub mod Numbered
+mod Linking
+mod Searches

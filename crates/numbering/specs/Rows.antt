@@ -8,6 +8,10 @@ pub record Equivalence {R : Type 0} (eq : R → R → Bool) : Type 0 where
   pub symmetric : (x y : R) → eq x y ≡ true → eq y x ≡ true
   pub transitive : (x y z : R) → eq x y ≡ true → eq y z ≡ true → eq x z ≡ true
 
+-- Equal rows hash alike.
+abbrev pub Alike : {R : Type 0} → (R → R → Bool) → (R → ℕ) → Type 0
+Alike {R} eq hash = (x y : R) → eq x y ≡ true → hash x ≡ hash y
+
 -- The number of the first of the rows that equals the row: rows are numbered from 0.
 abbrev pub found : {R : Type 0} → (R → R → Bool) → List R → R → Option ℕ
 found eq xs row = position (λ x. eq x row) xs

@@ -10,10 +10,18 @@ struct Letter(u8);
 impl Kind for Letter {
     ghost equals = { λ x y. (x.0 == y.0) };
 
+    ghost hash_of = { λ x. x.0 };
+
     ghost equivalence = { Prim.search rules };
+
+    ghost alike = { Prim.search rules };
 
     fn same(&self, other: &Self) -> bool {
         self.0 == other.0
+    }
+
+    fn hash(&self) -> usize {
+        self.0 as usize
     }
 }
 

@@ -1,11 +1,13 @@
 -- Labels are found and numbered in the table as their rows are in a list.
-use Rattle.std.proofs.Common.{◌≡◌, ℕ, ◌+◌, Bool, true, false, cond, not, ltb, List, [], ◌∷◌, ◌++◌, length, map, Some, None, Option, sym, refl, ap, ◌∙◌}
+use Rattle.std.proofs.Common.{◌≡◌, ℕ, ◌+◌, Bool, true, false, cond, not, ltb, List, [], ◌∷◌, ◌++◌, length, map, Some, None, Option, Ok, sym, refl, ap, ◌∙◌, arith}
 use Rattle.std.proofs.lemmas.List.{length-map, map_push}
 use Rattle.std.specs.List.{position_or_len}
 use Rattle.numbering.specs.Rows.{found, numbered, or_next, or_pushed, with_row}
 use Rattle.region.specs.declared.label.LabelRow.{LabelRow}
 use Rattle.region_text.specs.declared.label.Declared.{Declared}
 use Rattle.region_text.specs.Names.{same_label}
+use Rattle.region_text.specs.Texts.{LineFields}
+use Rattle.region_text.specs.Records.{label_row}
 
 abbrev pub same_declared : Declared → Declared → Bool
 same_declared x y = same_label x.row y.row
@@ -35,3 +37,14 @@ module _ (d : Declared) where
 
   pub rows_with : (room : ℕ) (ds : List Declared) → rows (with_row same_declared room ds d) ≡ with_row same_label room (rows ds) d.row
   rows_with room ds = pushed room ds (found same_declared ds d) ∙ ap (λ o. or_pushed o room (rows ds) d.row) (found_rows ds)
+
+-- the label row of a line has a name that no label has yet
+pub label_is_new : (x : LineFields) (labels : List LabelRow) (row : LabelRow) → label_row x labels ≡ Ok row → found same_label labels row ≡ None
+label_is_new x labels row e = grind arith
+
+-- a row that is not found gets the next number where there is room, and stands behind the others then
+pub numbered_next : (room : ℕ) (xs : List LabelRow) (row : LabelRow) → found same_label xs row ≡ None → numbered same_label room xs row ≡ cond (ltb (length xs) room) (Some (length xs)) None
+numbered_next room xs row e = ap (λ o. or_next o room (length xs)) e
+
+pub row_behind : (room : ℕ) (xs : List LabelRow) (row : LabelRow) → found same_label xs row ≡ None → with_row same_label room xs row ≡ cond (ltb (length xs) room) (xs ++ row ∷ []) xs
+row_behind room xs row e = ap (λ o. or_pushed o room xs row) e

@@ -16,6 +16,8 @@ enum Next<'a> {
     Any,
     Domain,
     List,
+    HandOut,
+    Repeat,
     ScheduleOf(&'a str),
 }
 
@@ -30,6 +32,12 @@ pub enum Misuse<'a> {
     NoDomain,
     #[error("--list wants a file after it")]
     NoList,
+    #[error("--hand-out wants a directory after it")]
+    NoDirectory,
+    #[error("--repeat wants a number from 1 to 4294967295 after it")]
+    NoCount,
+    #[error("--repeat wants a number from 1 to 4294967295 after it, and not '{0}'")]
+    UnknownCount(&'a str),
     #[error("the source '{0}' wants a schedule after it; try --help")]
     NoSchedule(&'a str),
     #[error("which SOURCE and SCHEDULE? try --help")]
@@ -38,10 +46,20 @@ pub enum Misuse<'a> {
     Memory(#[from(alloc)] AllocError),
 }
 
-/// A check of pairs in a domain.
+/// How pairs are checked.
+#[derive(Clone, Copy)]
+pub struct Manner<'a> {
+    pub domain: DomainName,
+    /// The directory that the schedules that pass are handed out into.
+    pub directory: Option<&'a str>,
+    /// How often the calls are made.
+    pub times: u32,
+}
+
+/// A check of pairs.
 #[derive(Drop)]
 pub struct Request<'a> {
-    pub domain: DomainName,
+    pub manner: Manner<'a>,
     pub origins: Vec<Origin<'a>>,
 }
 
@@ -61,12 +79,16 @@ struct Arguments<'a> {
 }
 
 impl<'a> Arguments<'a> {
-    // Nothing asked for yet: the wrapping domain and no pairs.
+    // Nothing asked for yet: the wrapping domain, once, and no pairs.
     fn new(heap: Global) -> Arguments<'a> {
         Arguments {
             help: false,
             request: Request {
-                domain: DomainName::Wrapping,
+                manner: Manner {
+                    domain: DomainName::Wrapping,
+                    directory: None,
+                    times: 1,
+                },
                 origins: Vec::new(heap),
             },
             next: Next::Any,
@@ -81,7 +103,25 @@ impl<'a> Arguments<'a> {
     }
 
     fn set_domain(&mut self, word: &'a str) -> Result<(), Misuse<'a>> {
-        self.request.domain = word.parse().map_err(|_| Misuse::UnknownDomain(word))?;
+        self.request.manner.domain = word.parse().map_err(|_| Misuse::UnknownDomain(word))?;
+        self.next = Next::Any;
+        Ok(())
+    }
+
+    fn set_directory(&mut self, word: &'a str) -> Result<(), Misuse<'a>> {
+        if word.is_empty() || word.starts_with('-') {
+            return Err(Misuse::NoDirectory);
+        }
+        self.request.manner.directory = Some(word);
+        self.next = Next::Any;
+        Ok(())
+    }
+
+    fn set_times(&mut self, word: &'a str) -> Result<(), Misuse<'a>> {
+        match word.parse() {
+            Ok(times) if times > 0 => self.request.manner.times = times,
+            _ => return Err(Misuse::UnknownCount(word)),
+        }
         self.next = Next::Any;
         Ok(())
     }
@@ -92,6 +132,8 @@ impl<'a> Arguments<'a> {
             "--help" | "-h" => self.help = true,
             "--domain" => self.next = Next::Domain,
             "--list" => self.next = Next::List,
+            "--hand-out" => self.next = Next::HandOut,
+            "--repeat" => self.next = Next::Repeat,
             _ if word.starts_with('-') => return Err(Misuse::UnknownOption(word)),
             _ => self.next = Next::ScheduleOf(word),
         }
@@ -112,6 +154,8 @@ impl<'a> Arguments<'a> {
             Next::Any => self.begin(word),
             Next::Domain => self.set_domain(word),
             Next::List => self.add(Origin::List(word)),
+            Next::HandOut => self.set_directory(word),
+            Next::Repeat => self.set_times(word),
             Next::ScheduleOf(source) => self.pair(source, word),
         }
     }
@@ -121,6 +165,8 @@ impl<'a> Arguments<'a> {
         match self.next {
             Next::Domain => Err(Misuse::NoDomain),
             Next::List => Err(Misuse::NoList),
+            Next::HandOut => Err(Misuse::NoDirectory),
+            Next::Repeat => Err(Misuse::NoCount),
             Next::ScheduleOf(source) => Err(Misuse::NoSchedule(source)),
             Next::Any if self.help => Ok(Asked::Help),
             Next::Any if self.request.origins.is_empty() => Err(Misuse::NoPairs),

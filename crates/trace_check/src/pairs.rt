@@ -3,20 +3,28 @@ use super::arguments::Origin;
 use desk::Trouble;
 use std::alloc::Global;
 use std::fs;
+use std::path::Path;
 
-/// The paths of a source and of a schedule of it.
+/// The number of a pair, and the paths of a source and of a schedule of it.
 #[derive(Drop)]
 pub struct Pair {
+    pub number: usize,
     pub source: String,
     pub schedule: String,
 }
 
 impl Pair {
-    fn new(heap: Global, source: &str, schedule: &str) -> Result<Pair, Trouble> {
+    fn new(heap: Global, number: usize, source: &str, schedule: &str) -> Result<Pair, Trouble> {
         Ok(Pair {
+            number,
             source: String::from_str(heap, source)?,
             schedule: String::from_str(heap, schedule)?,
         })
+    }
+
+    /// The name of the schedule's file, without the directories before it; none where the path has none, as `..`.
+    pub(crate) fn file_name(&self) -> Option<&str> {
+        Path::new(self.schedule.as_str()).file_name()
     }
 }
 
@@ -29,7 +37,12 @@ fn add_list(rt: &HostRuntime, pairs: &mut Vec<Pair>, path: &str) -> Result<(), T
         let mut words = line.split_ascii_whitespace();
         match (words.next(), words.next(), words.next()) {
             (None, _, _) => {}
-            (Some(source), Some(schedule), None) => pairs.push(Pair::new(heap, source, schedule)?)?,
+            (Some(source), Some(schedule), None) => pairs.push(Pair::new(
+                heap,
+                pairs.len(),
+                source,
+                schedule,
+            )?)?,
             _ => return Err(Trouble::Said(format!(in heap;
                 "{path}:{number}: a line of a list has two paths, that of a source and that of its schedule"
             )?)),
@@ -44,7 +57,7 @@ pub(crate) fn gather(rt: &HostRuntime, origins: &[Origin]) -> Result<Vec<Pair>, 
     for origin in origins {
         match *origin {
             Origin::Pair { source, schedule } => {
-                pairs.push(Pair::new(rt.alloc(), source, schedule)?)?
+                pairs.push(Pair::new(rt.alloc(), pairs.len(), source, schedule)?)?
             }
             Origin::List(path) => add_list(rt, &mut pairs, path)?,
         }

@@ -1,117 +1,148 @@
-// The check of all pairs, one by one.
+// The check of all pairs, shelf by shelf.
+use super::arguments::Manner;
+use super::calls::{Answers, shelf_calls};
+use super::handing::Directory;
 use super::pairs::Pair;
-use super::texts::Texts;
-use desk::{AnswerText, Declined, Desk, DomainName, Trouble};
+use super::schedule_text::ScheduleText;
+use super::texts::{Texts, read_all};
+use super::totals::Totals;
+use desk::{AnswerText, Call as Step, Declined, Desk, DomainName, Trouble};
+use replay::{Answer, Call, Granted};
 use std::alloc::Global;
-use std::fmt;
 use validator::Verdict;
 
-// How many pairs one shelf takes.
+/// How many pairs a shelf takes.
 pub(crate) const SHELF_PAIRS: u8 = 16;
 
-/// How many pairs came to each end. The sums saturate, as nothing says here how many pairs there are.
-#[derive(Clone, Copy, Default)]
-pub struct Totals {
-    passed: usize,
-    failed: usize,
-    refused: usize,
-}
-
-impl Totals {
-    fn count(&mut self, answer: Result<Verdict, Declined>) {
-        match answer {
-            Ok(Verdict::Passed) => self.passed = self.passed.saturating_add(1),
-            Ok(Verdict::Failed(_)) => self.failed = self.failed.saturating_add(1),
-            Err(_) => self.count_refused(),
-        }
-    }
-
-    fn count_refused(&mut self) {
-        self.refused = self.refused.saturating_add(1);
-    }
-
-    /// Whether all pairs passed.
-    pub(crate) fn all_passed(self) -> bool {
-        self.failed == 0 && self.refused == 0
-    }
-}
-
-impl fmt::Display for Totals {
-    fn fmt<W: fmt::Write>(&self, f: &mut fmt::Formatter<W>) -> fmt::Result {
-        let passed = self.passed;
-        let failed = self.failed;
-        let refused = self.refused;
-        write!(
-            f,
-            "total {passed} passed, {failed} failed, {refused} refused"
-        )
-    }
-}
-
-// Pairs on a desk, in a domain, as far as they are checked.
+// Pairs on a desk, as far as they are checked.
 #[derive(Drop)]
-struct Release {
+struct Release<'a> {
     desk: Desk,
     domain: DomainName,
+    times: u32,
+    directory: Option<Directory<'a>>,
     totals: Totals,
 }
 
-impl Release {
-    fn new(heap: Global, domain: DomainName) -> Result<Release, Trouble> {
+// That a shelf cannot be opened.
+fn unopened(heap: Global, declined: Declined) -> Trouble {
+    format!(in heap; "refused {declined}").map_or_else(Trouble::Memory, Trouble::Said)
+}
+
+// The directory that is asked for.
+fn open_directory<'a>(
+    rt: &HostRuntime,
+    path: &'a str,
+    pairs: &'a [Pair],
+) -> Result<Directory<'a>, Trouble> {
+    match Directory::open(rt, path, pairs) {
+        Ok(directory) => Ok(directory),
+        Err(unhanded) => Err(Trouble::Said(format!(in rt.alloc(); "{unhanded}")?)),
+    }
+}
+
+impl<'a> Release<'a> {
+    // A shelf for the pairs, or for sixteen of them where there are more; and the directory that takes what passes.
+    fn new(
+        rt: &HostRuntime,
+        manner: Manner<'a>,
+        pairs: &'a [Pair],
+    ) -> Result<Release<'a>, Trouble> {
+        let regions = u8::try_from(pairs.len()).unwrap_or(SHELF_PAIRS);
+        let directory = match manner.directory {
+            Some(path) => Some(open_directory(rt, path, pairs)?),
+            None => None,
+        };
         Ok(Release {
-            desk: Desk::new(heap, SHELF_PAIRS)?,
-            domain,
+            desk: Desk::new(rt.alloc(), regions.min(SHELF_PAIRS))?,
+            domain: manner.domain,
+            times: manner.times,
+            directory,
             totals: Totals::default(),
         })
     }
 
-    // Empties the shelf for the pairs to come.
-    fn open(&mut self, heap: Global) -> Result<(), Trouble> {
-        let _ = self
-            .desk
-            .open()
-            .try_map_err(|declined| Ok(Trouble::Said(format!(in heap; "refused {declined}")?)))?;
+    // Opens the shelf and makes the calls, as often as is asked. The answers are those of the last time.
+    fn replay(&mut self, heap: Global, calls: &[Call]) -> Result<Vec<Answer>, Trouble> {
+        let mut answers = vec![in heap; Ok(Granted::Done); calls.len()]?;
+        for _ in 0..self.times {
+            let opened = self.desk.replay(self.domain, calls, answers.as_mut_slice());
+            if let Err(refusal) = opened {
+                let call = Step::Open;
+                return Err(unopened(heap, Declined { call, refusal }));
+            }
+        }
+        Ok(answers)
+    }
+
+    // Checks the pairs of a shelf, prints what came of each, and counts it.
+    fn check(&mut self, rt: &HostRuntime, pairs: &[Pair]) -> Result<(), Trouble> {
+        let texts = read_all(rt, pairs)?;
+        let calls = shelf_calls(rt.alloc(), texts.as_slice())?;
+        let answers = self.replay(rt.alloc(), calls.as_slice())?;
+        let mut answers = Answers(answers.as_slice());
+        for (region, (pair, read)) in pairs.iter().zip(texts.as_slice()).enumerate() {
+            let number = pair.number;
+            match read {
+                Ok(texts) => {
+                    let Some(answer) = answers.next_pair() else {
+                        return Err(Trouble::Said(format!(in rt.alloc();
+                            "pair {number}: no answer"
+                        )?));
+                    };
+                    self.tell(rt, number, texts, answer)?;
+                    self.hand_out(rt, region, pair)?;
+                }
+                Err(unreadable) => {
+                    self.totals.count_refused();
+                    println!(rt; "{number} {unreadable}")?;
+                }
+            }
+        }
         Ok(())
     }
 
-    // Checks a pair, prints what came of it, and counts it. Each shelf takes sixteen; the first of sixteen finds it
-    // emptied.
-    fn check(&mut self, rt: &HostRuntime, number: usize, pair: &Pair) -> Result<(), Trouble> {
-        let region = number % usize::from(SHELF_PAIRS);
-        if region == 0 {
-            self.open(rt.alloc())?;
-        }
-        let texts = match Texts::read(rt, pair) {
-            Ok(texts) => texts,
-            Err(unreadable) => {
-                self.totals.count_refused();
-                println!(rt; "{number} {unreadable}")?;
-                return Ok(());
-            }
-        };
-        let answer = self.desk.check(
-            self.domain,
-            region,
-            texts.source.bytes.as_slice(),
-            texts.schedule.bytes.as_slice(),
-        );
+    // Prints what came of a pair, and counts it.
+    fn tell(
+        &mut self,
+        rt: &HostRuntime,
+        number: usize,
+        texts: &Texts,
+        answer: Result<Verdict, Declined>,
+    ) -> Result<(), Trouble> {
         self.totals.count(answer);
         let text = AnswerText(answer);
         let places = texts.places(answer);
         println!(rt; "{number} {text}\t{places}")?;
         Ok(())
     }
+
+    // Writes the schedule of a region, where it is handed out and a directory takes it.
+    fn hand_out(&mut self, rt: &HostRuntime, region: usize, pair: &Pair) -> Result<(), Trouble> {
+        let (Some(directory), Some(name)) = (self.directory, pair.file_name()) else {
+            return Ok(());
+        };
+        let Some(schedule) = ScheduleText::handed_out(&self.desk, region) else {
+            return Ok(());
+        };
+        let text = schedule.to_string(rt.alloc())?;
+        if let Err(unhanded) = directory.put(rt, name, text.as_str()) {
+            eprintln!(rt; "trace_check: {unhanded}")?;
+            self.totals.count_unwritten();
+        }
+        Ok(())
+    }
 }
 
 /// Checks the pairs in order, and prints one line for each and one for all.
-pub(crate) fn check_all(
+pub(crate) fn check_all<'a>(
     rt: &HostRuntime,
-    domain: DomainName,
-    pairs: &[Pair],
+    manner: Manner<'a>,
+    pairs: &'a [Pair],
 ) -> Result<Totals, Trouble> {
-    let mut release = Release::new(rt.alloc(), domain)?;
-    for (number, pair) in pairs.iter().enumerate() {
-        release.check(rt, number, pair)?;
+    let mut release = Release::new(rt, manner, pairs)?;
+    for shelf in pairs.chunks(usize::from(SHELF_PAIRS)) {
+        release.check(rt, shelf)?;
     }
     let totals = release.totals;
     println!(rt; "{totals}")?;

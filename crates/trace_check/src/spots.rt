@@ -5,14 +5,36 @@ use std::fmt::Write;
 // So much of a line is shown; a good line is shorter.
 const SHOWN: usize = 72;
 
-/// A place as it is printed: a file; a line of it, with its number; or how many joins it has.
+/// A line of a text with its number, as it is printed. There is no line behind the end of the text.
+#[derive(Clone, Copy)]
+pub struct NumberedLine<'a> {
+    number: usize,
+    line: Option<&'a [u8]>,
+}
+
+impl fmt::Display for NumberedLine<'_> {
+    fn fmt<W: fmt::Write>(&self, f: &mut fmt::Formatter<W>) -> fmt::Result {
+        let number = self.number;
+        write!(f, "{number} ")?;
+        match self.line {
+            Some(line) => show(f, line),
+            None => f.write_str("(the text ends here)"),
+        }
+    }
+}
+
+/// A place as it is printed: a file; a line of it; its lines from one to another; or how many joins it has.
 #[derive(Clone, Copy)]
 pub enum Spot<'a> {
     File(&'a str),
     Line {
         path: &'a str,
-        number: usize,
-        line: Option<&'a [u8]>,
+        line: NumberedLine<'a>,
+    },
+    Stretch {
+        path: &'a str,
+        first: NumberedLine<'a>,
+        last: NumberedLine<'a>,
     },
     Joins {
         path: &'a str,
@@ -25,13 +47,8 @@ impl fmt::Display for Spot<'_> {
         match *self {
             Spot::File(path) => f.write_str(path),
             Spot::Joins { path, joins } => write!(f, "{path}: joins {joins}"),
-            Spot::Line { path, number, line } => {
-                write!(f, "{path}:{number} ")?;
-                match line {
-                    Some(line) => show(f, line),
-                    None => f.write_str("(the text ends here)"),
-                }
-            }
+            Spot::Line { path, line } => write!(f, "{path}:{line}"),
+            Spot::Stretch { path, first, last } => write!(f, "{path}:{first} to line {last}"),
         }
     }
 }
@@ -58,15 +75,34 @@ fn show<W: fmt::Write>(f: &mut fmt::Formatter<W>, line: &[u8]) -> fmt::Result {
 pub struct Lines<'a>(pub &'a [u8]);
 
 impl<'a> Lines<'a> {
+    // The line of a number, counted from 1.
+    fn numbered(self, number: usize) -> NumberedLine<'a> {
+        NumberedLine {
+            number,
+            line: number.checked_sub(1).and_then(|before| self
+                .0
+                .split_inclusive(|b| *b == b'\n')
+                .nth(before)),
+        }
+    }
+
     /// The line of a number as a place; the file alone where the number is 0.
     pub(crate) fn spot(self, path: &'a str, number: usize) -> Spot<'a> {
-        match number.checked_sub(1) {
-            None => Spot::File(path),
-            Some(before) => Spot::Line {
+        match number {
+            0 => Spot::File(path),
+            _ => Spot::Line {
                 path,
-                number,
-                line: self.0.split_inclusive(|b| *b == b'\n').nth(before),
+                line: self.numbered(number),
             },
+        }
+    }
+
+    /// The lines from where an entry starts to where a stop stands.
+    pub(crate) fn stretch(self, path: &'a str, entry: u8, stop: u8) -> Spot<'a> {
+        Spot::Stretch {
+            path,
+            first: self.numbered(self.start(entry)),
+            last: self.numbered(self.stop(entry, stop)),
         }
     }
 
@@ -76,6 +112,21 @@ impl<'a> Lines<'a> {
             .split_inclusive(|b| *b == b'\n')
             .filter(|line| line.starts_with(b"J"))
             .count()
+    }
+
+    /// The number of the line where an entry starts: entry 0 at the first row, or at the end where there are no rows, and
+    /// entry j at the j-th join.
+    pub(crate) fn start(self, entry: u8) -> usize {
+        let mut lines = self.0.split_inclusive(|b| *b == b'\n');
+        let starts = match usize::from(entry).checked_sub(1) {
+            None => lines.position(|line| !line.starts_with(b"M")),
+            Some(above) => lines
+                .enumerate()
+                .filter(|(_, line)| line.starts_with(b"J"))
+                .map(|(before, _)| before)
+                .nth(above),
+        };
+        starts.map_or(0, |before| before.saturating_add(1))
     }
 
     /// The number of the line where a stop stands: of the exits below the entry's join the one of that number,

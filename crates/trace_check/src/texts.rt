@@ -1,7 +1,8 @@
-// The texts of a pair, and the places in them that a person opens.
+// The texts of pairs, and the places in them that a person opens.
 use super::pairs::Pair;
 use super::spots::{Lines, Spot};
 use desk::{Call, Declined};
+use std::alloc::AllocError;
 use std::{fmt, fs, io};
 use validator::{Mismatch, Verdict};
 
@@ -44,15 +45,16 @@ impl<'a> Text<'a> {
         self.lines().spot(self.path, number)
     }
 
-    // Where a stop stands; a mismatch of the joins has no stop, and their number is shown.
-    fn stop(&self, mismatch: Mismatch) -> Spot<'_> {
+    // From where the entry starts to where the stop stands; a mismatch of the joins has neither, and their number is shown.
+    fn stretch(&self, mismatch: Mismatch) -> Spot<'_> {
         if mismatch.stop == 0 {
             return Spot::Joins {
                 path: self.path,
                 joins: self.lines().joins(),
             };
         }
-        self.line(self.lines().stop(mismatch.entry, mismatch.stop))
+        self.lines()
+            .stretch(self.path, mismatch.entry, mismatch.stop)
     }
 }
 
@@ -62,6 +64,9 @@ pub struct Texts<'a> {
     pub source: Text<'a>,
     pub schedule: Text<'a>,
 }
+
+/// The texts of a pair, or the file of it that cannot be read.
+pub type Read<'a> = Result<Texts<'a>, Unreadable<'a>>;
 
 /// Places to open: one, or one in each of the two files.
 #[derive(Clone, Copy)]
@@ -80,8 +85,8 @@ impl fmt::Display for Places<'_> {
 }
 
 impl<'a> Texts<'a> {
-    /// The texts of a pair, where both can be read.
-    pub(crate) fn read(rt: &HostRuntime, pair: &'a Pair) -> Result<Texts<'a>, Unreadable<'a>> {
+    // The texts of a pair, where both can be read.
+    fn read(rt: &HostRuntime, pair: &'a Pair) -> Read<'a> {
         Ok(Texts {
             source: Text::read(rt, pair.source.as_str())?,
             schedule: Text::read(rt, pair.schedule.as_str())?,
@@ -98,7 +103,10 @@ impl<'a> Texts<'a> {
         match answer {
             Ok(Verdict::Passed) => self.files(),
             Ok(Verdict::Failed(mismatch)) => {
-                Places::Two(self.source.stop(mismatch), self.schedule.stop(mismatch))
+                Places::Two(
+                    self.source.stretch(mismatch),
+                    self.schedule.stretch(mismatch),
+                )
             }
             Err(declined) => match declined.call {
                 Call::Source => Places::One(self.source.line(declined.refusal.line)),
@@ -107,4 +115,16 @@ impl<'a> Texts<'a> {
             },
         }
     }
+}
+
+/// What can be read of each pair.
+pub(crate) fn read_all<'a>(
+    rt: &HostRuntime,
+    pairs: &'a [Pair],
+) -> Result<Vec<Read<'a>>, AllocError> {
+    let mut texts = Vec::new(rt.alloc());
+    for pair in pairs {
+        texts.push(Texts::read(rt, pair))?;
+    }
+    Ok(texts)
 }

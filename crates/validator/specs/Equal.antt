@@ -1,10 +1,10 @@
 -- When two rows of terms are equal.
 use Rattle.std.specs.Prelude.{◌≡◌, Decides, refl}
-use Rattle.std.proofs.Common.{sym, ◌∙◌, rules}
-use Rattle.numbering.specs.Rows.{Equivalence}
+use Rattle.std.proofs.Common.{sym, ap, ◌∙◌, rules}
+use Rattle.numbering.specs.Rows.{Alike, Equivalence}
 use Rattle.validator.specs.contracts.term_row.TermRowPartialEq.TheImpl as eq
 use Rattle.validator.specs.declared.term_row.TermRow.{TermRow}
-use Rattle.validator.specs.TermRows.{ordered, row_equals}
+use Rattle.validator.specs.TermRows.{mixed, ordered, row_equals, row_hash}
 
 -- the test of rows tells whether they are one
 same_rows : (x y : TermRow) → Decides ((eq.ghosts).eq x y) (x ≡ y)
@@ -20,3 +20,7 @@ equivalence = record {
   symmetric = λ x y h. (equal_decides y x).1 (sym ((equal_decides x y).0 h));
   transitive = λ x y z h k. (equal_decides x z).1 ((equal_decides x y).0 h ∙ (equal_decides y z).0 k);
 }
+
+-- equal rows hash alike
+pub alike : Alike row_equals row_hash
+alike x y h = ap mixed ((equal_decides x y).0 h)

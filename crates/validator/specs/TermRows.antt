@@ -1,10 +1,10 @@
 -- Rows of terms: each names its parts by the numbers of their rows.
-use Rattle.std.specs.Prelude.{◌≡◌, ℕ, zero, suc, ◌<◌, min, max, Bool, true, false, List, length, slice_index_or}
+use Rattle.std.specs.Prelude.{◌≡◌, ℕ, zero, suc, ◌+◌, ◌*◌, ◌<◌, min, max, Bool, true, false, List, length, slice_index_or}
 use Rattle.domain.specs.declared.op.Op.{Op}
 use Rattle.validator.specs.declared.term_row.TermRow.{TermRow}
 use Rattle.validator.specs.declared.term_row.TermRow.TheVariants.{RegisterAtEntry, BankAtEntry, Literal, Operate, Load, Store}
 use Rattle.validator.specs.contracts.term_row.TermRowPartialEq.TheImpl as eq
-use Rattle.validator.specs.Terms.{Term, register_at_entry, bank_at_entry, literal, operate, load, store}
+use Rattle.validator.specs.Terms.{Term, register_at_entry, bank_at_entry, literal, operate, load, store, number}
 
 -- the row with operands that may be exchanged in ascending order
 abbrev pub ordered : TermRow → TermRow
@@ -20,6 +20,19 @@ ordered (Store k a v) = Store k a v
 -- true exactly of one and the same row, which is shown in Equal: so this is the same as `ordered x ≡ ordered y`.
 abbrev pub row_equals : TermRow → TermRow → Bool
 row_equals x y = (eq.ghosts).eq (ordered x) (ordered y)
+
+-- The parts of a row, mixed; an operation's mark adds nothing. Any function of the row would do: this one spreads the rows of a walk.
+abbrev pub mixed : TermRow → ℕ
+mixed (RegisterAtEntry i) = i
+mixed (BankAtEntry k) = 16 + k
+mixed (Literal n) = 20 + n
+mixed (Operate o x a b) = 31 * number o + 67 * a + 29 * b
+mixed (Load k a) = 7 + 113 * k + 37 * a
+mixed (Store k a v) = 5 + 113 * k + 37 * a + 67 * v
+
+-- the hash of a row is that of the row in order
+abbrev pub row_hash : TermRow → ℕ
+row_hash x = mixed (ordered x)
 
 -- the term that a row says, where `term` gives the terms of numbers
 abbrev pub row_term : (term : ℕ → Term) → TermRow → Term

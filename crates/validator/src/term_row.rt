@@ -29,7 +29,7 @@ pub enum TermRow {
 }
 
 impl TermRow {
-    ghost use Rattle.validator.specs.TermRows.{ordered as ordered_row};
+    ghost use Rattle.validator.specs.TermRows.{ordered as ordered_row, mixed as mix};
 
     // The row with operands that may be exchanged in ascending order.
     fn ordered(self) -> TermRow
@@ -50,18 +50,46 @@ impl TermRow {
             row => row,
         }
     }
+
+    // The parts of a row, mixed: each has a weight of its own, so that rows spread over the buckets.
+    fn mixed(self) -> usize
+        ensures { result ≡ mix self }
+    {
+        match self {
+            TermRow::RegisterAtEntry(i) => i as usize,
+            TermRow::BankAtEntry(k) => 16 + k as usize,
+            TermRow::Literal(n) => 20 + n as usize,
+            TermRow::Operate {
+                op, left, right, ..
+            } => 31 * (op as usize) + 67 * (left as usize) + 29 * (right as usize),
+            TermRow::Load { bank, address } => 7 + 113 * (bank as usize) + 37 * (address as usize),
+            TermRow::Store {
+                bank,
+                address,
+                value,
+            } => 5 + 113 * (bank as usize) + 37 * (address as usize) + 67 * (value as usize),
+        }
+    }
 }
 
 /// Two rows are equal where they are built alike, exchangeable operands in either order.
 impl Kind for TermRow {
-    ghost use Rattle.validator.specs.TermRows.{row_equals};
+    ghost use Rattle.validator.specs.TermRows.{row_equals, row_hash};
     ghost use Rattle.validator.specs.Equal;
 
     ghost equals = { row_equals };
 
+    ghost hash_of = { row_hash };
+
     ghost equivalence = { Equal.equivalence };
+
+    ghost alike = { Equal.alike };
 
     fn same(&self, other: &Self) -> bool {
         self.ordered() == other.ordered()
+    }
+
+    fn hash(&self) -> usize {
+        self.ordered().mixed()
     }
 }
