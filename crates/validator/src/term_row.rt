@@ -60,7 +60,10 @@ impl TermRow {
             TermRow::BankAtEntry(k) => 16 + k as usize,
             TermRow::Literal(n) => 20 + n as usize,
             TermRow::Operate {
-                op, left, right, ..
+                op,
+                left,
+                right,
+                ..
             } => 31 * (op as usize) + 67 * (left as usize) + 29 * (right as usize),
             TermRow::Load { bank, address } => 7 + 113 * (bank as usize) + 37 * (address as usize),
             TermRow::Store {
