@@ -1,8 +1,8 @@
 // Schedules as texts.
 use desk::Desk;
 use region::{
-    Action, EXIT_PIECES, EXITS, JOINS, LabelNumber, LabelRow, MAIN_ROWS, PIECE_ROWS, Piece,
-    REGION_LABELS, Row, Shape,
+    Action, EXITS, JOINS, LabelNumber, LabelRow, MAIN_ROWS, PIECE_ROWS, Piece, REGION_LABELS, Row,
+    Shape,
 };
 use std::fmt;
 use std::fmt::Write;
@@ -105,50 +105,50 @@ impl<'a> ScheduleText<'a> {
         }
     }
 
-    // The records of so many rows from a place on.
+    // The records of the first so many rows.
     fn write_rows<W: fmt::Write>(
         &self,
         f: &mut fmt::Formatter<W>,
-        at: usize,
+        rows: &[Row],
         count: usize,
     ) -> fmt::Result {
-        for row in self.rows.iter().skip(at).take(count) {
+        for row in rows.iter().take(count) {
             self.write_row(f, *row)?;
         }
         Ok(())
     }
 
-    // A piece behind its head; nothing where it has no rows.
-    fn write_piece<W: fmt::Write>(&self, f: &mut fmt::Formatter<W>, piece: Piece) -> fmt::Result {
+    // A piece, whose rows begin its place, behind its head; nothing where it has none.
+    fn write_piece<W: fmt::Write>(
+        &self,
+        f: &mut fmt::Formatter<W>,
+        piece: Piece,
+        place: &[Row],
+    ) -> fmt::Result {
         let count = self.shape.piece_rows(piece);
         if count == 0 {
             return Ok(());
         }
-        let number = match piece {
-            Piece::OfExit(k) => {
-                let head = k.saturating_add(1);
-                writeln!(f, "P\t{head}")?;
-                k
-            }
-            Piece::OfJoin(j) => {
-                let head = j.saturating_add(1);
-                writeln!(f, "Q\t{head}")?;
-                EXITS.saturating_add(j)
-            }
+        let (letter, above) = match piece {
+            Piece::OfExit(k) => ('P', k),
+            Piece::OfJoin(j) => ('Q', j),
         };
-        let at = PIECE_ROWS.saturating_mul(number);
-        self.write_rows(f, at.saturating_add(EXIT_PIECES - MAIN_ROWS), count)
+        let number = above.saturating_add(1);
+        writeln!(f, "{letter}\t{number}")?;
+        self.write_rows(f, place, count)
     }
 }
 
 impl fmt::Display for ScheduleText<'_> {
     fn fmt<W: fmt::Write>(&self, f: &mut fmt::Formatter<W>) -> fmt::Result {
-        self.write_rows(f, 0, self.shape.rows())?;
+        self.write_rows(f, self.rows, self.shape.rows())?;
         let end = self.label(self.shape.end());
         writeln!(f, "E\t{end}")?;
         let exits = (0..EXITS).map(Piece::OfExit);
-        for piece in exits.chain((0..JOINS).map(Piece::OfJoin)) {
-            self.write_piece(f, piece)?;
+        let pieces = exits.chain((0..JOINS).map(Piece::OfJoin));
+        let places = self.rows.chunks(PIECE_ROWS).skip(MAIN_ROWS / PIECE_ROWS);
+        for (piece, place) in pieces.zip(places) {
+            self.write_piece(f, piece, place)?;
         }
         Ok(())
     }

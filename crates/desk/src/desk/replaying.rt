@@ -4,8 +4,8 @@ ghost use Rattle.replay.specs.Law.{Replayed};
 ghost use Rattle.shelf.specs.Calls.{hand_out_answer, kept_answer, reading, seen};
 ghost use Rattle.desk.specs.Replays.{replayed_in};
 
-use super::Desk;
 use super::super::domain_name::DomainName;
+use super::Desk;
 use domain::{Domain, Tagged, Trapping, Wrapping};
 use region::{LabelRow, Row};
 use replay::{Answer, Call, replay};
