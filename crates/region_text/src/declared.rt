@@ -10,12 +10,12 @@ use super::body::DeclaredLabels;
 use super::label::Declared;
 use super::labels::Labels;
 use numbering::Table;
-use region::{LabelRow, Name};
+use region::{LabelRow, Name, REGION_LABELS};
 use std::array;
 
 impl<'a> DeclaredLabels<'a> {
     /// No label yet.
-    pub(crate) fn new(places: &'a mut [Declared; 9]) -> DeclaredLabels<'a>
+    pub(crate) fn new(places: &'a mut [Declared; REGION_LABELS]) -> DeclaredLabels<'a>
         ensures { labels_of result ≡ [] }
     {
         DeclaredLabels {
@@ -49,7 +49,7 @@ impl<'a> DeclaredLabels<'a> {
     }
 
     /// The label rows: those of the declared labels, and then unused ones.
-    pub(crate) fn rows(&self) -> [LabelRow; 9]
+    pub(crate) fn rows(&self) -> [LabelRow; REGION_LABELS]
         ensures { result ≡ laid 9 unused (labels_of self.now) }
     {
         array::from_fn(|i| self.row(i))

@@ -12,11 +12,11 @@ use super::fault::{Fault, LineFault};
 use super::label::Declared;
 use super::letter::Letter;
 use super::taking::Body;
-use region::{LabelNumber, MainRows, Row};
+use region::{LabelNumber, MainRows, REGION_LABELS, Row};
 
 impl<'a> SourceBody<'a> {
     /// Nothing yet.
-    pub(crate) fn new(places: &'a mut [Declared; 9]) -> SourceBody<'a>
+    pub(crate) fn new(places: &'a mut [Declared; REGION_LABELS]) -> SourceBody<'a>
         ensures { reading result ≡ nothing_read }
     {
         SourceBody {

@@ -8,7 +8,7 @@ use super::draft::SourceDraft;
 use super::fault::Refusal;
 use super::label::Declared;
 use super::taking::take_lines;
-use region::{LabelRow, Shape};
+use region::{LabelRow, REGION_LABELS, Shape};
 
 /// Reads a source. A text that is none is refused, at its first faulty line.
 pub fn read_source(text: &[u8]) -> Result<SourceDraft, Refusal>
@@ -16,7 +16,7 @@ pub fn read_source(text: &[u8]) -> Result<SourceDraft, Refusal>
 {
     let mut places = [Declared {
         row: LabelRow::unused(),
-    }; 9];
+    }; REGION_LABELS];
     let mut body = SourceBody::new(&mut places);
     let end = take_lines(&mut body, text)?;
     Ok(SourceDraft {
