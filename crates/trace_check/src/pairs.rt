@@ -23,8 +23,9 @@ impl Pair {
 // The pairs of a list; blank lines have none.
 fn add_list(rt: &HostRuntime, pairs: &mut Vec<Pair>, path: &str) -> Result<(), Trouble> {
     let heap = rt.alloc();
-    let text = fs::read_to_string(rt, path)
-        .try_map_err(|e| Ok(Trouble::Said(format!(in heap; "{path}: cannot be read: {e}")?)))?;
+    let text = fs::read_to_string(rt, path).try_map_err(|e| Ok(Trouble::Said(format!(in heap;
+        "{path}: cannot be read: {e}"
+    )?)))?;
     for (number, line) in (1usize..).zip(text.as_str().lines()) {
         let mut words = line.split_ascii_whitespace();
         match (words.next(), words.next(), words.next()) {

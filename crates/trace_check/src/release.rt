@@ -67,10 +67,9 @@ impl Release {
 
     // Empties the shelf for the pairs to come.
     fn open(&mut self, heap: Global) -> Result<(), Trouble> {
-        let _ = self
-            .desk
-            .open()
-            .try_map_err(|declined| Ok(Trouble::Said(format!(in heap; "refused {declined}")?)))?;
+        let _ = self.desk.open().try_map_err(|declined| Ok(Trouble::Said(format!(in heap;
+            "refused {declined}"
+        )?)))?;
         Ok(())
     }
 
