@@ -3,7 +3,7 @@ use std::alloc::AllocError;
 use std::io;
 use thiserror::Error;
 
-/// The program has said what went wrong, and ends with status 1.
+/// The program has said what went wrong, and ends with status 1. No `ExitCode`: `Error: Failed` is printed last.
 #[derive(Debug, Drop)]
 pub struct Failed;
 

@@ -5,7 +5,7 @@ ghost use Rattle.region.specs.Machine.{cell};
 use domain::{Domain, Slot};
 use region::{Action, Bank, Register, Row};
 
-/// The 80 words that a run reads and writes. They are the caller's.
+/// The 80 words that a run reads and writes. They are the caller's: a struct of a `&mut` says at each method that they are the same.
 #[derive(Drop)]
 pub(crate) struct State<'a, D> {
     pub(crate) words: &'a mut [D],

@@ -4,6 +4,7 @@ ghost use Rattle.std.specs.Prelude.{◌≡◌};
 const NAME_BYTES: usize = 8;
 
 /// A label's name: 1 to 8 characters a-z or 0-9, followed by zero bytes. Only `Name::new` makes one.
+/// Bytes of a fixed number and no `String`, since no library uses the heap.
 #[derive(Clone, Copy, PartialEq, Eq)]
 pub struct Name {
     bytes: [u8; NAME_BYTES],

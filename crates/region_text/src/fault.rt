@@ -37,7 +37,7 @@ pub enum Layer {
 }
 
 impl Layer {
-    /// The word that is printed for the layer.
+    /// The word that is printed for the layer. No `Display`: lines are made of the words of several.
     pub fn name(self) -> &'static str
         ensures { result.now ≡ layer_name self }
     {

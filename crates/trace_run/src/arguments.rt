@@ -1,4 +1,4 @@
-// The words of the command line.
+// The words of the command line. They are read here and not by the kit's `clap`, whose messages are its own.
 use super::words::NumberDomain;
 use thiserror::Error;
 

@@ -4,7 +4,7 @@ use region_text::Fault;
 use shelf::{Number, Refusal};
 use std::alloc::Global;
 
-// What a refusal means, in a few words.
+// What a refusal means, in a few words. No `Display`: as it is printed a refusal is its number.
 fn number_words(number: Number) -> &'static str {
     match number {
         Number::Sizes => "the rows or labels are not as many as the regions own",

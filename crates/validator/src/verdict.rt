@@ -23,7 +23,7 @@ pub enum Reason {
 }
 
 impl Reason {
-    /// The word that is printed for the reason.
+    /// The word that is printed for the reason. No `Display`: lines are made of the words of several.
     pub fn name(self) -> &'static str
         ensures { result.now ≡ reason_name self }
     {
