@@ -2,12 +2,10 @@
 #![tactic(auto)]
 
 mod keeping;
-mod lines_held;
 mod parts;
 mod place;
 mod record;
 mod refusal;
-mod refusing;
 
 pub use keeping::Shelf;
 pub use record::Record;
