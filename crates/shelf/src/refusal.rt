@@ -8,7 +8,7 @@ use validator::Unfit;
 /// What a call is declined for, in the order of the printed numbers.
 #[derive(Clone, Copy)]
 pub enum Number {
-    /// 1: the rows or labels are not as many as the regions own.
+    /// 1: the rows or labels are not as many as the regions own, or a CHECK is lent fewer than 512 term rows.
     Sizes,
     /// 2: there is no such region.
     Region,
