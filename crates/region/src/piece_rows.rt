@@ -37,10 +37,8 @@ impl PieceRows {
         if piece >= PIECES {
             return Err(Full);
         }
-        let mut rows = self.pieces[piece];
-        rows.push(row)?;
-        self.pieces[piece] = rows;
-        Ok(())
+        let pieces = &mut self.pieces;
+        pieces[piece].push(row)
     }
 
     // How long each piece is.
