@@ -37,6 +37,7 @@ impl PieceRows {
         if piece >= PIECES {
             return Err(Full);
         }
+        // Lent by a name of their own, since the check takes no loan of one element out of a field; a copy put back took longer.
         let pieces = &mut self.pieces;
         pieces[piece].push(row)
     }

@@ -1,5 +1,5 @@
 // The calls that check pairs, and what they answer.
-use super::release::Waiting;
+use super::texts::Waiting;
 use desk::{Call as Step, Declined};
 use replay::{Answer, Call, Granted};
 use std::alloc::{AllocError, Global};

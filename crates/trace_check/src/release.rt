@@ -4,7 +4,7 @@ use super::calls::{Answers, shelf_calls};
 use super::handing::Directory;
 use super::pairs::Pair;
 use super::schedule_text::ScheduleText;
-use super::texts::{Read, Texts};
+use super::texts::{Texts, Waiting};
 use super::totals::Totals;
 use desk::{AnswerText, Call as Step, Declined, Desk, DomainName, Trouble};
 use replay::{Answer, Call, Granted};
@@ -15,15 +15,8 @@ use validator::Verdict;
 /// How many pairs a shelf takes.
 pub(crate) const SHELF_PAIRS: u8 = 16;
 
-// The texts that wait for a check together have fewer bytes than this, whatever their number. A good text has two thousand or so.
+// Pairs wait for the others of their shelf while their texts have fewer bytes than this together. A text that is taken has fewer than six thousand.
 const WAITING_BYTES: usize = 1 << 20;
-
-/// A pair whose texts were read, or could not be.
-#[derive(Drop)]
-pub struct Waiting<'a> {
-    pub pair: &'a Pair,
-    pub read: Read<'a>,
-}
 
 // Pairs on a desk, as far as they are checked; and those that wait for the others of their shelf, with the bytes of their texts.
 #[derive(Drop)]
@@ -90,7 +83,7 @@ impl<'a> Release<'a> {
         Ok(answers)
     }
 
-    // Reads the texts of a pair. Where they make the shelf full, or the bytes that wait many, the pairs that wait are checked.
+    // Reads the texts of a pair. Where they make the shelf full, or the bytes that wait too many, the pairs that wait are checked.
     fn take(&mut self, rt: &HostRuntime, pair: &'a Pair) -> Result<(), Trouble> {
         let read = Texts::read(rt, pair);
         let bytes = read.as_ref().map_or(0, Texts::len);

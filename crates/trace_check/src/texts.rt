@@ -67,6 +67,13 @@ pub struct Texts<'a> {
 /// The texts of a pair, or the file of it that cannot be read.
 pub type Read<'a> = Result<Texts<'a>, Unreadable<'a>>;
 
+/// A pair whose texts were read, or could not be.
+#[derive(Drop)]
+pub struct Waiting<'a> {
+    pub pair: &'a Pair,
+    pub read: Read<'a>,
+}
+
 /// Places to open: one, or one in each of the two files.
 #[derive(Clone, Copy)]
 pub enum Places<'a> {
