@@ -1,5 +1,5 @@
 -- What numbering a row means, over plain lists.
-use Rattle.std.proofs.Common.{◌≡◌, ℕ, ◌<◌, ◌≤◌, Bool, true, false, cond, ltb, List, [], ◌∷◌, ◌++◌, length, Some, None, Option, sym, refl, ◌∙◌, arith}
+use Rattle.std.proofs.Common.{◌≡◌, ℕ, ◌+◌, ◌<◌, ◌≤◌, Bool, true, false, cond, ltb, List, [], ◌∷◌, ◌++◌, length, Some, None, Option, sym, refl, ◌∙◌, arith}
 use Rattle.std.proofs.lemmas.Bool.{ltb-true, ltb-false}
 use Rattle.std.proofs.lemmas.List.{append-nil, length_push}
 use Rattle.numbering.specs.Rows.{found, or_next, or_pushed, numbered, with_row, Distinct, Equivalence, KeptDistinct, OneNumber}
@@ -32,7 +32,12 @@ module _ {R : Type 0} (eq : R → R → Bool) (room : ℕ) (xs : List R) (row : 
   pub number_kept : (s : R) (j : ℕ) → found eq xs s ≡ Some j → found eq (with_row eq room xs row) s ≡ Some j
   number_kept s j f = let e = extended in rw e.1 (found_kept eq s xs e.0 j f)
 
-  -- there are no more rows than there is room for
+  -- there is one row more at most, and no more than there is room for
+  pub length_grows : length (with_row eq room xs row) ≤ length xs + 1
+  length_grows =
+      by_ways (λ o after. length after ≤ length xs + 1)
+      (λ i e. omega arith) (λ e l. omega (arith, length_push xs row)) (λ e l. omega arith)
+
   pub length_inside : length xs ≤ room → length (with_row eq room xs row) ≤ room
   length_inside h =
       by_ways (λ o after. length after ≤ room)

@@ -1,5 +1,7 @@
 -- Pieces as they are put in, and laid out behind a main line.
 use Rattle.std.proofs.Common.{◌≡◌, ℕ, zero, suc, ◌+◌, ◌*◌, ◌<◌, ◌≤◌, List, [], ◌∷◌, ◌++◌, map, length, get_or, take, drop, set, replicate, sym, refl, ap, ◌∙◌, append_assoc, append-nil, zero-le, arith, length-append, length-drop}
+use Rattle.std.specs.Prelude.{Bool, true, false, cond}
+use Rattle.std.proofs.Math.Seq.{map-set_same}
 use Rattle.std.proofs.lemmas.List.{length-take-le, take_at, take_more, map-append, map-set, get_or-map}
 use Rattle.region.specs.declared.buffer.RowBuffer.{RowBuffer}
 use Rattle.region.specs.declared.row.Row.{Row}
@@ -13,6 +15,13 @@ pub put_piece : (ps : List (RowBuffer 16)) (p : ℕ) (r : Row) (d now : RowBuffe
     → map filled (set ps p now) ≡ put_in (map filled ps) p r
 put_piece ps p r d now h f =
     map-set filled ps p now ∙ ap (set (map filled ps) p) (f ∙ ap (λ xs. xs ++ r ∷ []) (sym (get_or-map filled ps p d [] h)))
+
+-- the pieces after one of them was given a row, which it took or did not
+pub pushed_piece : (taken : Bool) (ps : List (RowBuffer 16)) (p : ℕ) (r : Row) (d now : RowBuffer 16) → p < length ps
+    → filled now ≡ cond taken (filled (get_or ps p d) ++ r ∷ []) (filled (get_or ps p d))
+    → map filled (set ps p now) ≡ cond taken (put_in (map filled ps) p r) (map filled ps)
+pushed_piece true ps p r d now h f = put_piece ps p r d now h f
+pushed_piece false ps p r d now h f = map-set_same filled ps p now d f
 
 pub none_put : RowBuffer 16
 none_put = record { rows = replicate 16 blank; len = 0; few = zero-le; padded = refl }

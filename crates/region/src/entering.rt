@@ -9,15 +9,16 @@ use super::line_rows::LineRows;
 use super::piece::Piece;
 use super::row::Row;
 
-// A place among main rows: how many rows and how many exits stand above it.
-struct Position {
-    place: usize,
-    exits: usize,
+/// A place among main rows: how many rows and how many exits stand above it.
+#[derive(Clone, Copy)]
+pub struct Position {
+    pub place: usize,
+    pub exits: usize,
 }
 
-// The place below the join that has j joins above it, among main rows: what entry j + 1 runs after that join's piece.
-// A join that has no row stands at the end.
-fn below(main: &[Row], j: usize) -> Position
+/// The place below the join that has j joins above it, among main rows: what entry j + 1 runs after that join's piece.
+/// A join that has no row stands at the end.
+pub fn below(main: &[Row], j: usize) -> Position
     ensures inside { result.place ≤ length main.now }
     ensures counted { result.exits ≤ result.place }
     ensures entered { (part : List RowOf) (sh : Kept) (n : ℕ) → j < n → Enters part sh j n main.now result.place result.exits }

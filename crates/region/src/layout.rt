@@ -18,5 +18,7 @@ pub const PIECES: usize = 12;
 pub const SCHEDULE_ROWS: usize = 288;
 /// The most rows of a piece.
 pub const PIECE_ROWS: usize = 16;
-/// Where the pieces begin.
+/// Where the pieces begin; those of the exits come first.
 pub const EXIT_PIECES: usize = 192;
+/// Where the pieces of the joins begin.
+pub const JOIN_PIECES: usize = 320;

@@ -16,12 +16,12 @@ mod row;
 mod shape;
 mod side;
 
-pub use entering::Entered;
+pub use entering::{Entered, Position, below};
 pub use full::Full;
 pub use label::{LabelRow, Name};
 pub use layout::{
-    EXIT_PIECES, EXITS, JOINS, MAIN_ROWS, PIECE_ROWS, PIECES, REGION_LABELS, REGION_ROWS,
-    SCHEDULE_ROWS, STATE_WORDS,
+    EXIT_PIECES, EXITS, JOIN_PIECES, JOINS, MAIN_ROWS, PIECE_ROWS, PIECES, REGION_LABELS,
+    REGION_ROWS, SCHEDULE_ROWS, STATE_WORDS,
 };
 pub use line_rows::LineRows;
 pub use main_rows::MainRows;

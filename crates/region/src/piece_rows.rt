@@ -37,10 +37,9 @@ impl PieceRows {
         if piece >= PIECES {
             return Err(Full);
         }
-        let mut rows = self.pieces[piece];
-        rows.push(row)?;
-        self.pieces[piece] = rows;
-        Ok(())
+        // Lent by a name of their own, since the check takes no loan of one element out of a field; a copy put back took longer.
+        let pieces = &mut self.pieces;
+        pieces[piece].push(row)
     }
 
     // How long each piece is.

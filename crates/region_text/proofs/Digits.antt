@@ -18,7 +18,7 @@ beyond (x ∷ bs) a b h k =
       | false ↦ refl
     ]
 
-cut : (bs : List ℕ) (n : ℕ) → capped (digits (min n 65536) bs) ≡ capped (digits n bs)
+pub cut : (bs : List ℕ) (n : ℕ) → capped (digits (min n 65536) bs) ≡ capped (digits n bs)
 cut bs n =
     elim (cases_lt n 65536) [
       | inl h ↦ let e : min n 65536 ≡ n = omega arith in ap (λ k. capped (digits k bs)) e

@@ -1,5 +1,8 @@
 -- Labels are found and numbered in the table as their rows are in a list.
-use Rattle.std.proofs.Common.{◌≡◌, ℕ, ◌+◌, Bool, true, false, cond, not, ltb, List, [], ◌∷◌, ◌++◌, length, map, Some, None, Option, Ok, sym, refl, ap, ◌∙◌, arith}
+use Rattle.std.proofs.Common.{◌≡◌, ℕ, ◌+◌, Bool, true, false, cond, not, ltb, List, [], ◌∷◌, ◌++◌, length, map, Some, None, Option, Ok, sym, refl, ap, ◌∙◌, arith, rules}
+use Rattle.std.specs.Prelude.{Decides}
+use Rattle.std.specs.Str.{bytes_eq}
+use Rattle.std.proofs.lemmas.Slice.Eq.{bytes_eq-Decides}
 use Rattle.std.proofs.lemmas.List.{length-map, map_push}
 use Rattle.std.specs.List.{position_or_len}
 use Rattle.numbering.specs.Rows.{found, numbered, or_next, or_pushed, with_row}
@@ -8,6 +11,10 @@ use Rattle.region_text.specs.declared.label.Declared.{Declared}
 use Rattle.region_text.specs.Names.{same_label}
 use Rattle.region_text.specs.Texts.{LineFields}
 use Rattle.region_text.specs.Records.{label_row}
+
+-- what decides the equality of bytes is their test
+pub bytes_tested : (xs ys : List ℕ) (r : Bool) → Decides r (xs ≡ ys) → r ≡ bytes_eq xs ys
+bytes_tested xs ys r h = search (rules, bytes_eq-Decides)
 
 abbrev pub same_declared : Declared → Declared → Bool
 same_declared x y = same_label x.row y.row

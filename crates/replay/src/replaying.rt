@@ -1,5 +1,5 @@
 // Replays of lists of calls.
-ghost use Rattle.std.specs.Prelude.{◌≡◌, length};
+ghost use Rattle.std.specs.Prelude.{◌≡◌, length, OnErr};
 ghost use Rattle.shelf.specs.Store.{store};
 ghost use Rattle.replay.specs.Law.{Replayed};
 
@@ -24,6 +24,7 @@ pub fn replay<D: Domain>(
 ) -> Result<usize, Refusal>
     ensures law { let st = store shelf.old rows.old labels.old in let st' = store shelf.new rows.new labels.new in Replayed D.meaning (length terms.old) calls.now st st' answers.old answers.new result }
     ensures room { length terms.new ≡ length terms.old }
+    ensures unopened { OnErr result (terms.new ≡ terms.old) }
 {
     let _ = shelf.open(rows, labels)?;
     let made = calls.len().min(answers.len());

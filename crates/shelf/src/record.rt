@@ -23,10 +23,10 @@ impl Record {
     pub(crate) fn line(self, side: Side) -> Result<Shape, Refusal>
         ensures { kept_line result ≡ line_of side (kept_region self) }
     {
-        let source = self.source.ok_or(Number::Source)?;
-        match side {
-            Side::Source => Ok(source),
-            Side::Schedule => Ok(self.schedule.ok_or(Number::Schedule)?),
+        match (self.source, side, self.schedule) {
+            (None, _, _) => Err(Number::Source.into()),
+            (Some(_), Side::Schedule, None) => Err(Number::Schedule.into()),
+            (Some(held), Side::Source, _) | (Some(_), Side::Schedule, Some(held)) => Ok(held),
         }
     }
 

@@ -22,7 +22,7 @@ enum Next<'a> {
 }
 
 /// What is wrong with the command line.
-#[derive(Debug, Drop, Error)]
+#[derive(Clone, Copy, Debug, Error)]
 pub enum Misuse<'a> {
     #[error("there is no option '{0}'; try --help")]
     UnknownOption(&'a str),

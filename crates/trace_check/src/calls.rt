@@ -1,5 +1,5 @@
 // The calls that check pairs, and what they answer.
-use super::texts::Read;
+use super::texts::Waiting;
 use desk::{Call as Step, Declined};
 use replay::{Answer, Call, Granted};
 use std::alloc::{AllocError, Global};
@@ -26,11 +26,11 @@ pub(crate) fn pair_calls<'a>(region: usize, source: &'a [u8], schedule: &'a [u8]
 /// The calls that check the pairs of a shelf, each in the region of its place. A pair that cannot be read has none.
 pub(crate) fn shelf_calls<'a>(
     heap: Global,
-    pairs: &'a [Read<'a>],
+    shelf: &'a [Waiting<'a>],
 ) -> Result<Vec<Call<'a>>, AllocError> {
     let mut calls = Vec::new(heap);
-    for (region, read) in pairs.iter().enumerate() {
-        if let Ok(texts) = read {
+    for (region, waiting) in shelf.iter().enumerate() {
+        if let Ok(texts) = &waiting.read {
             calls.extend_from_slice(&pair_calls(
                 region,
                 texts.source.bytes.as_slice(),

@@ -4,17 +4,21 @@ use super::calls::{Answers, shelf_calls};
 use super::handing::Directory;
 use super::pairs::Pair;
 use super::schedule_text::ScheduleText;
-use super::texts::{Texts, read_all};
+use super::texts::{Texts, Waiting};
 use super::totals::Totals;
 use desk::{AnswerText, Call as Step, Declined, Desk, DomainName, Trouble};
 use replay::{Answer, Call, Granted};
 use std::alloc::Global;
+use std::mem;
 use validator::Verdict;
 
 /// How many pairs a shelf takes.
 pub(crate) const SHELF_PAIRS: u8 = 16;
 
-// Pairs on a desk, as far as they are checked.
+// Pairs wait for the others of their shelf while their texts have fewer bytes than this together. A text that is taken has fewer than six thousand.
+const WAITING_BYTES: usize = 1 << 20;
+
+// Pairs on a desk, as far as they are checked; and those that wait for the others of their shelf, with the bytes of their texts.
 #[derive(Drop)]
 struct Release<'a> {
     desk: Desk,
@@ -22,6 +26,8 @@ struct Release<'a> {
     times: u32,
     directory: Option<Directory<'a>>,
     totals: Totals,
+    waiting: Vec<Waiting<'a>>,
+    bytes: usize,
 }
 
 // That a shelf cannot be opened.
@@ -59,6 +65,8 @@ impl<'a> Release<'a> {
             times: manner.times,
             directory,
             totals: Totals::default(),
+            waiting: Vec::new(rt.alloc()),
+            bytes: 0,
         })
     }
 
@@ -75,13 +83,29 @@ impl<'a> Release<'a> {
         Ok(answers)
     }
 
-    // Checks the pairs of a shelf, prints what came of each, and counts it.
-    fn check(&mut self, rt: &HostRuntime, pairs: &[Pair]) -> Result<(), Trouble> {
-        let texts = read_all(rt, pairs)?;
-        let calls = shelf_calls(rt.alloc(), texts.as_slice())?;
+    // Reads the texts of a pair. Where they make the shelf full, or the bytes that wait too many, the pairs that wait are checked.
+    fn take(&mut self, rt: &HostRuntime, pair: &'a Pair) -> Result<(), Trouble> {
+        let read = Texts::read(rt, pair);
+        let bytes = read.as_ref().map_or(0, Texts::len);
+        self.bytes = self.bytes.saturating_add(bytes);
+        self.waiting.push(Waiting { pair, read })?;
+        if self.waiting.len() >= usize::from(SHELF_PAIRS) || self.bytes >= WAITING_BYTES {
+            return self.check(rt);
+        }
+        Ok(())
+    }
+
+    // Checks the pairs that wait, as those of one shelf, prints what came of each, and counts it.
+    fn check(&mut self, rt: &HostRuntime) -> Result<(), Trouble> {
+        let shelf = mem::replace(&mut self.waiting, Vec::new(rt.alloc()));
+        self.bytes = 0;
+        if shelf.is_empty() {
+            return Ok(());
+        }
+        let calls = shelf_calls(rt.alloc(), shelf.as_slice())?;
         let answers = self.replay(rt.alloc(), calls.as_slice())?;
         let mut answers = Answers(answers.as_slice());
-        for (region, (pair, read)) in pairs.iter().zip(texts.as_slice()).enumerate() {
+        for (region, Waiting { pair, read }) in shelf.as_slice().iter().enumerate() {
             let number = pair.number;
             match read {
                 Ok(texts) => {
@@ -141,9 +165,10 @@ pub(crate) fn check_all<'a>(
     pairs: &'a [Pair],
 ) -> Result<Totals, Trouble> {
     let mut release = Release::new(rt, manner, pairs)?;
-    for shelf in pairs.chunks(usize::from(SHELF_PAIRS)) {
-        release.check(rt, shelf)?;
+    for pair in pairs {
+        release.take(rt, pair)?;
     }
+    release.check(rt)?;
     let totals = release.totals;
     println!(rt; "{totals}")?;
     Ok(totals)

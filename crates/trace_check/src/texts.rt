@@ -2,7 +2,6 @@
 use super::pairs::Pair;
 use super::spots::{Lines, Spot};
 use desk::{Call, Declined};
-use std::alloc::AllocError;
 use std::{fmt, fs, io};
 use validator::{Mismatch, Verdict};
 
@@ -68,6 +67,13 @@ pub struct Texts<'a> {
 /// The texts of a pair, or the file of it that cannot be read.
 pub type Read<'a> = Result<Texts<'a>, Unreadable<'a>>;
 
+/// A pair whose texts were read, or could not be.
+#[derive(Drop)]
+pub struct Waiting<'a> {
+    pub pair: &'a Pair,
+    pub read: Read<'a>,
+}
+
 /// Places to open: one, or one in each of the two files.
 #[derive(Clone, Copy)]
 pub enum Places<'a> {
@@ -85,12 +91,20 @@ impl fmt::Display for Places<'_> {
 }
 
 impl<'a> Texts<'a> {
-    // The texts of a pair, where both can be read.
-    fn read(rt: &HostRuntime, pair: &'a Pair) -> Read<'a> {
+    /// The texts of a pair, where both can be read.
+    pub(crate) fn read(rt: &HostRuntime, pair: &'a Pair) -> Read<'a> {
         Ok(Texts {
             source: Text::read(rt, pair.source.as_str())?,
             schedule: Text::read(rt, pair.schedule.as_str())?,
         })
+    }
+
+    /// How many bytes the two have. The sum saturates, as nothing says here how many a file may have.
+    pub(crate) fn len(&self) -> usize {
+        self.source
+            .bytes
+            .len()
+            .saturating_add(self.schedule.bytes.len())
     }
 
     fn files(&self) -> Places<'_> {
@@ -115,16 +129,4 @@ impl<'a> Texts<'a> {
             },
         }
     }
-}
-
-/// What can be read of each pair.
-pub(crate) fn read_all<'a>(
-    rt: &HostRuntime,
-    pairs: &'a [Pair],
-) -> Result<Vec<Read<'a>>, AllocError> {
-    let mut texts = Vec::new(rt.alloc());
-    for pair in pairs {
-        texts.push(Texts::read(rt, pair))?;
-    }
-    Ok(texts)
 }

@@ -1,12 +1,15 @@
 -- What numbering a term's row does to a table.
-use Rattle.std.specs.Prelude.{◌≡◌, ℕ, ◌<◌, ◌≤◌, min, max, Bool, true, false, ◌⊎◌, List, [], ◌∷◌, ◌++◌, length, Some, None, Option, ◌==◌, slice_index_or, refl}
-use Rattle.std.proofs.Common.{sym, ◌∙◌, subst, inl, inr, arith, not-suc-le-zero}
+use Rattle.std.specs.Prelude.{◌≡◌, ℕ, ◌+◌, ◌<◌, ◌≤◌, min, max, Bool, true, false, ◌⊎◌, List, [], ◌∷◌, ◌++◌, length, Some, None, Option, ◌==◌, slice_index_or, refl}
+use Rattle.std.proofs.Common.{sym, ◌∙◌, ap, subst, inl, inr, arith, not-suc-le-zero}
 use Rattle.std.proofs.lemmas.Bool.{cases_lt}
 use Rattle.std.proofs.lemmas.Bool.Decides.{same_from_decides, Decides-eqb}
-use Rattle.std.proofs.lemmas.List.{length_push}
+use Rattle.std.proofs.lemmas.List.{length_push, length-take-le}
 use Rattle.numbering.specs.Rows.{found, numbered, with_row}
+use Rattle.numbering.specs.declared.kind.Kind.{Ghosts}
+use Rattle.numbering.specs.declared.table.Table.{Table}
+use Rattle.numbering.specs.Used.{used, capacity}
 use Rattle.numbering.proofs.Found.{found_is, distinct_none, distinct_push}
-use Rattle.numbering.proofs.Numbered.{by_ways}
+use Rattle.numbering.proofs.Numbered.{by_ways, length_grows}
 use Rattle.domain.specs.declared.op.Op.{Op}
 use Rattle.validator.specs.declared.term_row.TermRow.{TermRow}
 use Rattle.validator.specs.declared.term_row.TermRow.TheVariants.{RegisterAtEntry, BankAtEntry, Literal, Operate, Load, Store}
@@ -19,6 +22,26 @@ use Rattle.validator.proofs.Same.{same_refl, same_sym, same_trans, test_so_same,
 use Rattle.validator.specs.Equal.{equal_decides, equivalence}
 use Rattle.validator.proofs.Unique.{unique}
 use Rattle.validator.proofs.Grown.{grown, stays, newest, at_row}
+
+-- a table has as many rows in use as it counts
+pub used_length : {kind : Ghosts TermRow} (t : Table TermRow kind) → length (used t) ≡ t.len
+used_length t = length-take-le t.len t.rows.now t.inside
+
+-- a table holds no more than it has room for
+pub used_fits : {kind : Ghosts TermRow} (t : Table TermRow kind) → capacity t ≡ 512 → length (used t) ≤ 512
+used_fits t e = omega (arith, used_length t, t.inside)
+
+-- numbering puts one row in at most, and answers a number of a row in the table
+pub one_more : {kind : Ghosts TermRow} (t u : Table TermRow kind) (r : TermRow) → used u ≡ with_row row_equals (capacity t) (used t) r → u.len ≤ t.len + 1
+one_more t u r e = omega (arith, used_length t, used_length u, ap length e, length_grows row_equals (capacity t) (used t) r)
+
+pub number_inside : {kind : Ghosts TermRow} (t : Table TermRow kind) (r : TermRow) (o : Option ℕ) (n : ℕ) → o ≡ numbered row_equals (capacity t) (used t) r → o ≡ Some n → n < capacity t
+number_inside t r o n p q =
+    by_ways row_equals (capacity t) (used t) r (λ a after. a ≡ Some n → n < capacity t)
+    (λ i f g. let i_is : i ≡ n = cc in omega (arith, (found_is row_equals r (used t) i (Literal 0) f).0, used_length t, t.inside))
+    (λ f l g. let n_is : length (used t) ≡ n = cc in omega arith)
+    (λ f l g. cc)
+    (sym p ∙ q)
 
 module _ (c : Op → Bool) (term : ℕ → Term) where
   in_order : (o : Op) (a b : ℕ) → c o ≡ true → Same c (operate o (term a) (term b)) (operate o (term (min a b)) (term (max a b)))

@@ -1,12 +1,34 @@
 -- The same terms: an equivalence, and what the test of it tells.
-use Rattle.std.specs.Prelude.{◌≡◌, ℕ, Bool, true, ◌&&◌, ◌||◌, ◌==◌, refl}
+use Rattle.std.specs.Prelude.{◌≡◌, ℕ, zero, suc, Bool, true, ◌&&◌, ◌||◌, ◌==◌, refl}
 use Rattle.std.proofs.Common.{subst, ⊎_elim, arith}
 use Rattle.std.proofs.lemmas.Bool.{and_parts, and_from, or_cases, or_left, or_right, eqb-true, eq-eqb, false≢true}
 use Rattle.domain.specs.declared.op.Op.{Op}
+use Rattle.domain.specs.declared.op.Op.TheVariants.{Add, Sub, Mul, Div, Lt, Eq, And, Or}
 use Rattle.validator.specs.Terms.{Term, register_at_entry, bank_at_entry, literal, operate, load, store, number, same}
 use Rattle.validator.specs.Terms.{Same, same_register, same_bank, same_literal, same_operate, same_turned, same_load, same_store}
 
-one_operation : (o p : Op) → number o ≡ number p → o ≡ p
+-- the operation of a number
+abbrev pub numbered : ℕ → Op
+numbered zero = Add
+numbered (suc zero) = Sub
+numbered (suc (suc zero)) = Mul
+numbered (suc (suc (suc zero))) = Div
+numbered (suc (suc (suc (suc zero)))) = Lt
+numbered (suc (suc (suc (suc (suc zero))))) = Eq
+numbered (suc (suc (suc (suc (suc (suc zero)))))) = And
+numbered (suc (suc (suc (suc (suc (suc (suc n))))))) = Or
+
+pub numbered_back : (o : Op) → numbered (number o) ≡ o
+numbered_back Add = refl
+numbered_back Sub = refl
+numbered_back Mul = refl
+numbered_back Div = refl
+numbered_back Lt = refl
+numbered_back Eq = refl
+numbered_back And = refl
+numbered_back Or = refl
+
+pub one_operation : (o p : Op) → number o ≡ number p → o ≡ p
 one_operation o p e = grind arith
 
 module _ (commutes : Op → Bool) where

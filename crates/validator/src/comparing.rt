@@ -1,5 +1,5 @@
 // The comparison of a schedule with its source.
-ghost use Rattle.std.specs.Prelude.{◌≡◌, ◌+◌, ◌≤◌, length};
+ghost use Rattle.std.specs.Prelude.{◌≡◌, ◌+◌, ◌≤◌, length, OnErr};
 ghost use Rattle.region.specs.Kept.{kept};
 ghost use Rattle.validator.specs.Walks.{basis};
 ghost use Rattle.validator.specs.Comparison.{mismatch as mismatch_of};
@@ -94,6 +94,7 @@ pub fn compare<D: Domain>(
 ) -> Result<Verdict, Unfit>
     ensures answer { result ≡ compared D.meaning rows.now labels.now (kept source.now) (kept schedule.now) (length terms.old) }
     ensures room { length terms.new ≡ length terms.old }
+    ensures refused { OnErr result (terms.new ≡ terms.old) }
 {
     let rows = <&[Row; REGION_ROWS]>::try_from(rows).map_err(|_| Unfit::Rows)?;
     let labels = <&[LabelRow; REGION_LABELS]>::try_from(labels).map_err(|_| Unfit::Labels)?;

@@ -1,5 +1,5 @@
 // CHECK.
-ghost use Rattle.std.specs.Prelude.{◌≡◌, length};
+ghost use Rattle.std.specs.Prelude.{◌≡◌, length, OnErr};
 ghost use Rattle.shelf.specs.Store.{store};
 ghost use Rattle.shelf.specs.Calls.{check_answer, check_put, settled};
 
@@ -12,7 +12,7 @@ use validator::{TERM_ROWS, TermRow, Verdict, compare};
 
 impl Shelf {
     /// CHECK: compares the schedule of a region with its source, sets the mark to the verdict, and answers it.
-    /// The term rows are working memory: what they hold afterwards is left open.
+    /// The term rows are working memory: what they hold after a granted check is left open. A declined one leaves them as they were.
     pub fn check<D: Domain>(
         &mut self,
         rows: &[Row],
@@ -23,6 +23,7 @@ impl Shelf {
         ensures answer { let st = store self.old rows.now labels.now in result ≡ check_answer D.meaning st region (length terms.old) }
         ensures after { let st = store self.old rows.now labels.now in store self.new rows.now labels.now ≡ settled st (check_put st region) result }
         ensures room { length terms.new ≡ length terms.old }
+        ensures declined { OnErr result (terms.new ≡ terms.old) }
     {
         if terms.len() < TERM_ROWS {
             return Err(Number::Sizes.into());

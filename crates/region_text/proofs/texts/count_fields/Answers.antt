@@ -1,9 +1,11 @@
-use Rattle.std.proofs.Common.{◌==◌, rules}
-use Rattle.std.proofs.lemmas.Iterator.Consumers.{count_from_yields_List}
-use Rattle.std.proofs.lemmas.Iterator.Splits.{YieldsList-from_slice_split}
+use Rattle.std.proofs.Common.{◌≡◌, ◌+◌, ◌==◌, take, ap, ◌∙◌, arith}
+use Rattle.std.specs.List.{count_by}
+use Rattle.std.proofs.lemmas.List.{take_all}
+use Rattle.std.proofs.lemmas.List.Splits.{length-slice_split}
 use Rattle.region_text.proofs.texts.count_fields.Goals as goal
 
 pub returns : goal.returns
 returns c =
-    let split = c.split.ensures in
-    count_from_yields_List _ _ c.count.ensures.ran (YieldsList-from_slice_split _ (λ b. b == 9) c.args.line.now split.rest split.done split.closure (λ x b q h. search rules))
+    let line = c.args.line.now in
+    let tabs : c.loop-b.n ≡ 1 + count_by (λ b. b == 9) line = c.loop-b.invariant.1 ∙ ap (λ l. 1 + count_by (λ b. b == 9) l) (take_all c.loop-b.b-index line (omega arith)) in
+    omega (arith, tabs, length-slice_split (λ b. b == 9) line)
